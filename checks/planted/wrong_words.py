@@ -28,6 +28,8 @@ WRONG = [
     (CASE + 'patch = { "record.2" = { at = 99, bytes = "2F" } }\n', "there are 62 bytes, and it would write 1 from 99"),
     (CASE + 'answer = { "GENERATE AX" = "9000" }\n', "'GENERATE AX' is no command, as 'second GENERATE AC', and no number: did you mean GENERATE AC?"),
     (CASE + 'answer = { "SELECT" = "9O00" }\n', "the answer SELECT is '9O00'"),
+    (CASE + 'rule = "SEL-3a"\n', "rule: docs/proof/profile.md has no rule 'SEL-3a': did you mean SEL-3?"),
+    (CASE + 'rule = ["SEL-1", 2]\n', "rule is ['SEL-1', 2], and should be the name of a rule"),
     # Words of a card.
     ('[card]\ncvm = ["signatur if supported"]\n' + CASE, "plain: the method 'signatur' is not known: did you mean signature?"),
     ('[card]\ncvm = ["signature if suported"]\n' + CASE, "the condition 'suported' is not known: did you mean supported?"),

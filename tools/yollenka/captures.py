@@ -183,7 +183,7 @@ def faults(report, planned):
 
 
 def store_fault(pages):
-    """What is wrong with the store's pages, by the lines that bank_dump writes of the bank."""
+    """What is wrong with the store's pages, by the lines that replay_probe writes of the bank."""
     home = next((line.split()[3] for line in pages.splitlines() if line.startswith(f"card {PLACE} home ")), "")
     if not home.startswith(EMPTY):
         yield f"the store's pages begin with {home[:12] or 'nothing'}"

@@ -31,6 +31,17 @@ def counted(text):
     return int(text)
 
 
+def seconds(text):
+    """A time in seconds, 0 or more."""
+    try:
+        found = float(text)
+    except ValueError:
+        found = -1.0
+    if not 0 <= found < 1e9:
+        raise argparse.ArgumentTypeError(f"{text!r} is no number of seconds")
+    return found
+
+
 def a_file(text):
     """A file that is there and can be read."""
     path = Path(text)

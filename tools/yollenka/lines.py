@@ -61,6 +61,14 @@ def begin(name, words, text):
     return process, Lines(process.stdin, process.stdout)
 
 
+def end(process):
+    """Ends a program that was begun, wherever it stands."""
+    process.kill()
+    process.stdin.close()
+    process.stdout.close()
+    process.wait()
+
+
 def read(path):
     """A scenario's document as a value."""
     with open(path, "rb") as file:

@@ -1,4 +1,4 @@
-"""The words for data objects, bits and codes, as the Books have them: written apart from crates/explain_words, beside which
+"""The words for data objects, bits and codes, as the Books have them: written apart from crates/value_words, beside which
 `checks/words` puts them.
 """
 # The names of data objects (EMV 4.3 Book 3 Annex A, Book 1 section 11; ISO 7816-4 for frames), with the form in which a value is told.

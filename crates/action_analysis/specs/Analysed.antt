@@ -10,10 +10,10 @@ use Rattle.action_analysis.specs.declared.Codes.{Codes}
 use Rattle.action_analysis.specs.TerminalKinds.{is_online_only, can_go_online}
 
 -- each bit that stands in one or the other
-abbrev pub joined : List ℕ → List ℕ → List ℕ
-joined [] bs = []
-joined (a ∷ more) [] = []
-joined (a ∷ more) (b ∷ bs) = bit_or a b ∷ joined more bs
+abbrev pub bits_of_either : List ℕ → List ℕ → List ℕ
+bits_of_either [] bs = []
+bits_of_either (a ∷ more) [] = []
+bits_of_either (a ∷ more) (b ∷ bs) = bit_or a b ∷ bits_of_either more bs
 
 -- the issuer's action code, or the bytes that stand for an absent one
 abbrev pub issuer_code : ℕ → ℕ → Entries → List ℕ
@@ -23,9 +23,9 @@ issuer_code tag absent entries = unwrap_or (value_of tag entries) (replicate 5 a
 -- (9F0F) or default code (9F0D) has all
 unfoldable pub codes_of : ReadCard → AidRow → Codes
 codes_of card row = record {
-  denial = joined (issuer_code 0x9F0E 0x00 card.entries) row.denial;
-  online = joined (issuer_code 0x9F0F 0xFF card.entries) row.online;
-  fallback = joined (issuer_code 0x9F0D 0xFF card.entries) row.fallback;
+  denial = bits_of_either (issuer_code 0x9F0E 0x00 card.entries) row.denial;
+  online = bits_of_either (issuer_code 0x9F0F 0xFF card.entries) row.online;
+  fallback = bits_of_either (issuer_code 0x9F0D 0xFF card.entries) row.fallback;
 }
 
 -- these results have a bit of this action code

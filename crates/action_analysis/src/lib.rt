@@ -102,7 +102,7 @@ fn issuer_code(objects: &Env, tag: Tag, absent: u8) -> [u8; 5]
 
 /// Each bit that stands in one or the other.
 fn joined(first: [u8; 5], second: [u8; 5]) -> [u8; 5]
-    ensures { result ≡ spec.joined first second }
+    ensures { result ≡ spec.bits_of_either first second }
 {
     let [a, b, c, d, e] = first;
     let [f, g, h, i, j] = second;

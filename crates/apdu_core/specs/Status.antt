@@ -15,8 +15,8 @@ abbrev pub authentication_failed : ℕ
 authentication_failed = 0x6300
 
 -- a counter from 0 to 15
-abbrev pub counter : ℕ → ℕ
-counter left = 0x63C0 + left
+abbrev pub counter_status : ℕ → ℕ
+counter_status left = 0x63C0 + left
 
 -- the length is wrong
 abbrev pub wrong_length : ℕ
@@ -67,8 +67,8 @@ abbrev pub class_not_supported : ℕ
 class_not_supported = 0x6E00
 
 -- what the counter says that a status gives, where it gives one
-abbrev pub counter_in : ℕ → Option ℕ
-counter_in status = (if status / 16 == 0x63C then Some (status - 0x63C0) else None)
+abbrev pub status_counter : ℕ → Option ℕ
+status_counter status = (if status / 16 == 0x63C then Some (status - 0x63C0) else None)
 
 -- a warning: SW1 is 62 or 63
 abbrev pub is_warning : ℕ → Bool

@@ -70,17 +70,17 @@ pub fn status_words()
 /// The status that gives a counter from 0 to 15, as of the tries that are left: 63Cx.
 pub fn counter(left: u8) -> u16
     requires { left ≤ 15 }
-    ensures status { result ≡ spec.counter left }
-    ensures read_again { spec.counter_in result ≡ Some left }
+    ensures status { result ≡ spec.counter_status left }
+    ensures read_again { spec.status_counter result ≡ Some left }
 {
     0x63c0 + u16::from(left)
 }
 
 /// The counter that a status gives: x of 63Cx, `None` at any other status.
 pub fn counter_in(status: u16) -> Option<u8>
-    ensures exact { result ≡ spec.counter_in status }
-    ensures given { IfSome result (λ left. (left ≤ 15) × (status ≡ spec.counter left)) }
-    ensures other { IfNone result ((left : ℕ) → left ≤ 15 → status ≢ spec.counter left) }
+    ensures exact { result ≡ spec.status_counter status }
+    ensures given { IfSome result (λ left. (left ≤ 15) × (status ≡ spec.counter_status left)) }
+    ensures other { IfNone result ((left : ℕ) → left ≤ 15 → status ≢ spec.counter_status left) }
 {
     if status / 16 == 0x63c {
         Some((status % 16) as u8)

@@ -8,7 +8,7 @@ use Rattle.std.proofs.lemmas.Bool.Decides.{nat_tests}
 use Rattle.std.proofs.lemmas.List.{length-take-le}
 use Rattle.apdu_core.specs.Response.{ResponseData, response_of, status_of}
 use Rattle.apdu_core.specs.Status.{no_error, file_invalidated, function_not_supported}
-use Rattle.app_select.specs.Fci.{FciData, ProprietaryData, IsShort, with_priority, proprietary_in, proprietary_of, fitting_name, fci_with, fci_in, fci_in_template, fci_of}
+use Rattle.app_select.specs.Fci.{FciData, ProprietaryData, IsShortList, with_priority, proprietary_in, proprietary_of, fitting_name, fci_with, fci_in, fci_in_template, fci_of}
 use Rattle.app_select.specs.Said.{SaidData, Blocked, Nothing, IsSaidShort, said_fci, said_response, select_said}
 use Rattle.ber_tlv.specs.Direct.{first_value, sole_value}
 use Rattle.ber_tlv.specs.Item.{ItemData}
@@ -35,16 +35,16 @@ template_fits body (Ok items) is short = items_fit body 0 items short ((reads_li
 template_fits body (Err fault) is short = tt
 
 -- an object of either choice
-either_short : (test : Bool) (value : List ℕ) (rest : Option (List ℕ)) → length value ≤ 255 → IsShort rest → IsShort (if test then Some value else rest)
+either_short : (test : Bool) (value : List ℕ) (rest : Option (List ℕ)) → length value ≤ 255 → IsShortList rest → IsShortList (if test then Some value else rest)
 either_short true value rest first later = first
 either_short false value rest first later = later
 
-first_value-short : (tag : ℕ) (items : List ItemData) → AllByRecursion (λ item. length item.value ≤ 255) items → IsShort (first_value tag items)
+first_value-short : (tag : ℕ) (items : List ItemData) → AllByRecursion (λ item. length item.value ≤ 255) items → IsShortList (first_value tag items)
 first_value-short tag [] short = tt
 first_value-short tag (item ∷ items) short =
     either_short (item.tag == tag) item.value (first_value tag items) short.0 (first_value-short tag items short.1)
 
-sole_value-short : (tag : ℕ) (read : Result (List ItemData) TlvFault) → ItemsShort 255 read → IsShort (sole_value tag read)
+sole_value-short : (tag : ℕ) (read : Result (List ItemData) TlvFault) → ItemsShort 255 read → IsShortList (sole_value tag read)
 sole_value-short tag (Ok []) short = tt
 sole_value-short tag (Ok (item ∷ [])) short = either_short (item.tag == tag) item.value None short.0 tt
 sole_value-short tag (Ok (item ∷ other ∷ items)) short = tt
@@ -53,14 +53,14 @@ sole_value-short tag (Err fault) short = tt
 -- the object list of a template
 ListShort : Option ProprietaryData → Type 0
 ListShort None = ⊤
-ListShort (Some proprietary) = IsShort proprietary.pdol
+ListShort (Some proprietary) = IsShortList proprietary.pdol
 
 -- that of an FCI
 FciShort : Option FciData → Type 0
 FciShort None = ⊤
-FciShort (Some fci) = IsShort fci.pdol
+FciShort (Some fci) = IsShortList fci.pdol
 
-with_priority-short : (priority pdol : Option (List ℕ)) → IsShort pdol → ListShort (with_priority priority pdol)
+with_priority-short : (priority pdol : Option (List ℕ)) → IsShortList pdol → ListShort (with_priority priority pdol)
 unfolding ListShort
 with_priority-short None pdol short = short
 with_priority-short (Some []) pdol short = tt
@@ -72,7 +72,7 @@ unfolding proprietary_in ListShort
 proprietary_in-short (Ok items) short = with_priority-short (first_value 0x87 items) (first_value 0x9F38 items) (first_value-short 0x9F38 items short)
 proprietary_in-short (Err fault) short = tt
 
-proprietary_of-short : (template : Option (List ℕ)) → IsShort template → ListShort (proprietary_of template)
+proprietary_of-short : (template : Option (List ℕ)) → IsShortList template → ListShort (proprietary_of template)
 unfolding ListShort
 proprietary_of-short None short = tt
 proprietary_of-short (Some value) short = proprietary_in-short (items_of value) (item_values_short 255 value short)
@@ -90,7 +90,7 @@ fci_in-short (Ok items) short =
     (proprietary_of-short (first_value 0xA5 items) (first_value-short 0xA5 items short))
 fci_in-short (Err fault) short = tt
 
-fci_in_template-short : (template : Option (List ℕ)) → IsShort template → FciShort (fci_in_template template)
+fci_in_template-short : (template : Option (List ℕ)) → IsShortList template → FciShort (fci_in_template template)
 unfolding FciShort
 fci_in_template-short None short = tt
 fci_in_template-short (Some value) short = fci_in-short (items_of value) (item_values_short 255 value short)

@@ -2,7 +2,7 @@
 use Rattle.std.proofs.Common.{◌≡◌, ℕ, ◌+◌, ◌<◌, ◌&&◌, Bool, true, false, List, [], ◌∷◌, suc, length, nat_lt, refl, arith, if◌then◌else◌}
 use Rattle.std.specs.List.{AllByRecursion}
 use Rattle.std.proofs.lemmas.Bool.Decides.{nat_tests}
-use Rattle.app_select.specs.Listed.{AnswerData, ListedData, goes_on, listed, most_occurrences}
+use Rattle.app_select.specs.Listed.{AnswerData, ListedData, has_next_occurrence, listed, most_occurrences}
 use Rattle.app_select.specs.Said.{SaidData, Unreadable, Blocked, Named, Nothing, select_said, is_longer}
 use Rattle.emv_dict.specs.declared.purchase.AidRow.{AidRow}
 
@@ -10,13 +10,13 @@ and_right : (a b : Bool) → (a && b) ≡ true → b ≡ true
 and_right true b is = is
 and_right false b is = cc
 
-goes_on-few : (row : AidRow) (turn : ℕ) (said : SaidData) → goes_on row turn said ≡ true → turn + 1 < 16
-goes_on-few row turn Unreadable goes = cc
-goes_on-few row turn Blocked goes = cc
-goes_on-few row turn (Named is_valid fci) goes =
+has_next_occurrence-few : (row : AidRow) (turn : ℕ) (said : SaidData) → has_next_occurrence row turn said ≡ true → turn + 1 < 16
+has_next_occurrence-few row turn Unreadable goes = cc
+has_next_occurrence-few row turn Blocked goes = cc
+has_next_occurrence-few row turn (Named is_valid fci) goes =
     let below = and_right (is_longer row.name fci.name) (nat_lt (turn + 1) most_occurrences) goes in
     grind (arith, nat_tests, below)
-goes_on-few row turn Nothing goes = cc
+has_next_occurrence-few row turn Nothing goes = cc
 
 -- each answer's occurrence is one of sixteen
 abbrev pub FewTurns : List AnswerData → Type 0
@@ -32,8 +32,8 @@ listed-few (row ∷ rows) turn [] few = tt
 listed-few (row ∷ rows) turn (answer ∷ later) few =
     let first : 0 < 16 = omega arith in (
       few,
-      either_few (goes_on row turn (select_said answer)) (listed (row ∷ rows) (turn + 1) later) (listed rows 0 later)
-          (λ goes. listed-few (row ∷ rows) (turn + 1) later (goes_on-few row turn (select_said answer) goes))
+      either_few (has_next_occurrence row turn (select_said answer)) (listed (row ∷ rows) (turn + 1) later) (listed rows 0 later)
+          (λ goes. listed-few (row ∷ rows) (turn + 1) later (has_next_occurrence-few row turn (select_said answer) goes))
           (listed-few rows 0 later first),
     )
 
@@ -59,7 +59,7 @@ unfolding IsWhole
 listed-whole [] turn answers = omega arith
 listed-whole (row ∷ rows) turn [] = omega arith
 listed-whole (row ∷ rows) turn (answer ∷ later) =
-    let again = goes_on row turn (select_said answer) in
+    let again = has_next_occurrence row turn (select_said answer) in
     one_whole (if again then listed (row ∷ rows) (turn + 1) later else listed rows 0 later) (length later)
     (either_whole again (listed (row ∷ rows) (turn + 1) later) (listed rows 0 later) (length later) (listed-whole (row ∷ rows) (turn + 1) later) (listed-whole rows 0 later))
 

@@ -4,12 +4,12 @@ use Rattle.std.specs.List.{AllByRecursion, list_any}
 use Rattle.std.specs.Str.{bytes_eq}
 use Rattle.std.proofs.lemmas.List.Folds.{list_any-append}
 use Rattle.std.proofs.lemmas.Slice.Eq.{bytes_eq-Decides}
-use Rattle.app_select.specs.Candidates.{CandidateData, has_name, firsts_behind, firsts}
+use Rattle.app_select.specs.Candidates.{CandidateData, is_candidate_named, firsts_behind, firsts}
 use Rattle.app_select.specs.Laws.{HasDistinctNames}
 
 -- none of these has the name of one of those
 abbrev pub NoneOf : List CandidateData → List CandidateData → Type 0
-NoneOf earlier among = AllByRecursion (λ other. list_any (has_name other.name) earlier ≡ false) among
+NoneOf earlier among = AllByRecursion (λ other. list_any (is_candidate_named other.name) earlier ≡ false) among
 
 -- what holds of one more holds of fewer
 or_left : (a b : Bool) → (a || b) ≡ false → a ≡ false
@@ -24,15 +24,15 @@ or_right false false is = refl
 fewer : (earlier : List CandidateData) (candidate : CandidateData) (among : List CandidateData) → NoneOf (earlier ++ candidate ∷ []) among → NoneOf earlier among
 fewer earlier candidate [] all = tt
 fewer earlier candidate (other ∷ among) all =
-    (or_left _ _ (sym (list_any-append (has_name other.name) earlier (candidate ∷ [])) ∙ all.0), fewer earlier candidate among all.1)
+    (or_left _ _ (sym (list_any-append (is_candidate_named other.name) earlier (candidate ∷ [])) ∙ all.0), fewer earlier candidate among all.1)
 
 one : (earlier : List CandidateData) (candidate : CandidateData) (among : List CandidateData) → NoneOf (earlier ++ candidate ∷ []) among
     → AllByRecursion (λ other. bytes_eq candidate.name other.name ≡ false) among
 one earlier candidate [] all = tt
 one earlier candidate (other ∷ among) all =
-    (or_right _ _ (sym (list_any-append (has_name other.name) earlier (candidate ∷ [])) ∙ all.0), one earlier candidate among all.1)
+    (or_right _ _ (sym (list_any-append (is_candidate_named other.name) earlier (candidate ∷ [])) ∙ all.0), one earlier candidate among all.1)
 
-distinct_by : (earlier : List CandidateData) (candidate : CandidateData) (rest : List CandidateData) (test : Bool) → list_any (has_name candidate.name) earlier ≡ test
+distinct_by : (earlier : List CandidateData) (candidate : CandidateData) (rest : List CandidateData) (test : Bool) → list_any (is_candidate_named candidate.name) earlier ≡ test
     → HasDistinctNames rest × NoneOf (earlier ++ candidate ∷ []) rest
     → HasDistinctNames (if test then rest else candidate ∷ rest) × NoneOf earlier (if test then rest else candidate ∷ rest)
 distinct_by earlier candidate rest true is all = (all.0, fewer earlier candidate rest all.1)
@@ -41,13 +41,13 @@ distinct_by earlier candidate rest false is all = ((one earlier candidate rest a
 firsts_behind-distinct : (earlier found : List CandidateData) → HasDistinctNames (firsts_behind earlier found) × NoneOf earlier (firsts_behind earlier found)
 firsts_behind-distinct earlier [] = (tt, tt)
 firsts_behind-distinct earlier (candidate ∷ found) =
-    distinct_by earlier candidate (firsts_behind (earlier ++ candidate ∷ []) found) (list_any (has_name candidate.name) earlier) refl (firsts_behind-distinct (earlier ++ candidate ∷ []) found)
+    distinct_by earlier candidate (firsts_behind (earlier ++ candidate ∷ []) found) (list_any (is_candidate_named candidate.name) earlier) refl (firsts_behind-distinct (earlier ++ candidate ∷ []) found)
 
 pub firsts-distinct : (found : List CandidateData) → HasDistinctNames (firsts found)
 firsts-distinct found = (firsts_behind-distinct [] found).0
 
 -- a name that one before has, has been found before
-named_too : (name : List ℕ) (candidate : CandidateData) (earlier : List CandidateData) → has_name name candidate ≡ true → list_any (has_name candidate.name) earlier ≡ true → list_any (has_name name) earlier ≡ true
+named_too : (name : List ℕ) (candidate : CandidateData) (earlier : List CandidateData) → is_candidate_named name candidate ≡ true → list_any (is_candidate_named candidate.name) earlier ≡ true → list_any (is_candidate_named name) earlier ≡ true
 named_too name candidate earlier is there =
     let same : candidate.name ≡ name = (bytes_eq-Decides candidate.name name).0 is in
     rw (← same) there
@@ -64,18 +64,18 @@ past false true rest later known same =
     cc
 past false false rest later known same = same
 
-there_by : (name : List ℕ) (earlier : List CandidateData) (candidate : CandidateData) (rest : List CandidateData) (found : List CandidateData) (test : Bool) → list_any (has_name candidate.name) earlier ≡ test
-    → (list_any (has_name name) (earlier ++ candidate ∷ []) || list_any (has_name name) rest) ≡ (list_any (has_name name) (earlier ++ candidate ∷ []) || list_any (has_name name) found)
-    → (list_any (has_name name) earlier || list_any (has_name name) (if test then rest else candidate ∷ rest)) ≡ (list_any (has_name name) earlier || (has_name name candidate || list_any (has_name name) found))
+there_by : (name : List ℕ) (earlier : List CandidateData) (candidate : CandidateData) (rest : List CandidateData) (found : List CandidateData) (test : Bool) → list_any (is_candidate_named candidate.name) earlier ≡ test
+    → (list_any (is_candidate_named name) (earlier ++ candidate ∷ []) || list_any (is_candidate_named name) rest) ≡ (list_any (is_candidate_named name) (earlier ++ candidate ∷ []) || list_any (is_candidate_named name) found)
+    → (list_any (is_candidate_named name) earlier || list_any (is_candidate_named name) (if test then rest else candidate ∷ rest)) ≡ (list_any (is_candidate_named name) earlier || (is_candidate_named name candidate || list_any (is_candidate_named name) found))
 there_by name earlier candidate rest found true is same =
-    past (list_any (has_name name) earlier) (has_name name candidate) _ _ (λ named. named_too name candidate earlier named is) (rw (list_any-append (has_name name) earlier (candidate ∷ [])) at same)
+    past (list_any (is_candidate_named name) earlier) (is_candidate_named name candidate) _ _ (λ named. named_too name candidate earlier named is) (rw (list_any-append (is_candidate_named name) earlier (candidate ∷ [])) at same)
 there_by name earlier candidate rest found false is same =
-    both (list_any (has_name name) earlier) (has_name name candidate) _ _ (rw (list_any-append (has_name name) earlier (candidate ∷ [])) at same)
+    both (list_any (is_candidate_named name) earlier) (is_candidate_named name candidate) _ _ (rw (list_any-append (is_candidate_named name) earlier (candidate ∷ [])) at same)
 
-firsts_behind-there : (name : List ℕ) (earlier found : List CandidateData) → (list_any (has_name name) earlier || list_any (has_name name) (firsts_behind earlier found)) ≡ (list_any (has_name name) earlier || list_any (has_name name) found)
+firsts_behind-there : (name : List ℕ) (earlier found : List CandidateData) → (list_any (is_candidate_named name) earlier || list_any (is_candidate_named name) (firsts_behind earlier found)) ≡ (list_any (is_candidate_named name) earlier || list_any (is_candidate_named name) found)
 firsts_behind-there name earlier [] = refl
 firsts_behind-there name earlier (candidate ∷ found) =
-    there_by name earlier candidate (firsts_behind (earlier ++ candidate ∷ []) found) found (list_any (has_name candidate.name) earlier) refl (firsts_behind-there name (earlier ++ candidate ∷ []) found)
+    there_by name earlier candidate (firsts_behind (earlier ++ candidate ∷ []) found) found (list_any (is_candidate_named candidate.name) earlier) refl (firsts_behind-there name (earlier ++ candidate ∷ []) found)
 
-pub firsts-there : (found : List CandidateData) (name : List ℕ) → list_any (has_name name) (firsts found) ≡ list_any (has_name name) found
+pub firsts-there : (found : List CandidateData) (name : List ℕ) → list_any (is_candidate_named name) (firsts found) ≡ list_any (is_candidate_named name) found
 firsts-there found name = firsts_behind-there name [] found

@@ -4,24 +4,24 @@ use Rattle.std.specs.declared.option.Option.{Option}
 use Rattle.std.specs.List.{AllByRecursion, filter}
 use Rattle.std.proofs.lemmas.Bool.Decides.{nat_tests}
 use Rattle.std.proofs.lemmas.List.Elements.{filter-append}
-use Rattle.app_select.specs.Candidates.{CandidateData, rank_of, has_rank, by_rank, ordered}
-use Rattle.app_select.specs.Laws.{IsRising}
+use Rattle.app_select.specs.Candidates.{CandidateData, priority_rank, has_rank, by_rank, in_priority_order}
+use Rattle.app_select.specs.Laws.{IsInPriorityOrder}
 
 rank_by : (byte : ℕ) (test : Bool) → (byte % 16 == 0) ≡ test → (1 ≤ (if test then 16 else byte % 16)) × ((if test then 16 else byte % 16) ≤ 16)
 rank_by byte true is = (omega arith, omega arith)
 rank_by byte false is = (grind (arith, nat_tests), omega arith)
 
-pub rank_of-least : (priority : Option ℕ) → 1 ≤ rank_of priority
-rank_of-least None = omega arith
-rank_of-least (Some byte) = (rank_by byte (byte % 16 == 0) refl).0
+pub priority_rank-least : (priority : Option ℕ) → 1 ≤ priority_rank priority
+priority_rank-least None = omega arith
+priority_rank-least (Some byte) = (rank_by byte (byte % 16 == 0) refl).0
 
-pub rank_of-most : (priority : Option ℕ) → rank_of priority ≤ 16
-rank_of-most None = omega arith
-rank_of-most (Some byte) = (rank_by byte (byte % 16 == 0) refl).1
+pub priority_rank-most : (priority : Option ℕ) → priority_rank priority ≤ 16
+priority_rank-most None = omega arith
+priority_rank-most (Some byte) = (rank_by byte (byte % 16 == 0) refl).1
 
 -- all stand at this rank or behind it
 abbrev pub AtLeast : ℕ → List CandidateData → Type 0
-AtLeast rank among = AllByRecursion (λ other. rank ≤ rank_of other.priority) among
+AtLeast rank among = AllByRecursion (λ other. rank ≤ priority_rank other.priority) among
 
 weaker : (rank : ℕ) (among : List CandidateData) → AtLeast (rank + 1) among → AtLeast rank among
 weaker rank [] all = tt
@@ -31,17 +31,17 @@ weaker rank (candidate ∷ among) all =
 
 -- those of one rank, before others that are not before them
 abbrev pub Bucketed : ℕ → List CandidateData → Type 0
-Bucketed rank among = IsRising among × AtLeast rank among
+Bucketed rank among = IsInPriorityOrder among × AtLeast rank among
 
-at_rank : (rank : ℕ) (candidate : CandidateData) → has_rank rank candidate ≡ true → rank_of candidate.priority ≡ rank
+at_rank : (rank : ℕ) (candidate : CandidateData) → has_rank rank candidate ≡ true → priority_rank candidate.priority ≡ rank
 at_rank rank candidate is = grind (arith, nat_tests)
 
 bucket_by : (rank : ℕ) (candidate : CandidateData) (front behind : List CandidateData) (test : Bool) → has_rank rank candidate ≡ test → Bucketed rank (front ++ behind)
     → Bucketed rank ((if test then candidate ∷ front else front) ++ behind)
 bucket_by rank candidate front behind true is all =
     let same = at_rank rank candidate is in
-    let this : rank ≤ rank_of candidate.priority = omega (arith, same) in
-    let others : AtLeast (rank_of candidate.priority) (front ++ behind) = rw same all.1 in
+    let this : rank ≤ priority_rank candidate.priority = omega (arith, same) in
+    let others : AtLeast (priority_rank candidate.priority) (front ++ behind) = rw same all.1 in
     ((others, all.0), (this, all.1))
 bucket_by rank candidate front behind false is all = all
 
@@ -56,8 +56,8 @@ by_rank-rising rank (suc ranks) candidates =
     let behind = by_rank-rising (rank + 1) ranks candidates in
     bucket rank candidates (by_rank (rank + 1) ranks candidates) (behind.0, weaker rank (by_rank (rank + 1) ranks candidates) behind.1)
 
-pub ordered-rising : (candidates : List CandidateData) → IsRising (ordered candidates)
-ordered-rising candidates = (by_rank-rising 1 16 candidates).0
+pub in_priority_order-rising : (candidates : List CandidateData) → IsInPriorityOrder (in_priority_order candidates)
+in_priority_order-rising candidates = (by_rank-rising 1 16 candidates).0
 
 again_by : (test : CandidateData → Bool) (candidate : CandidateData) (rest : List CandidateData) (passes : Bool) → test candidate ≡ passes → filter test rest ≡ rest
     → filter test (if passes then candidate ∷ rest else rest) ≡ (if passes then candidate ∷ rest else rest)
@@ -127,7 +127,7 @@ by_rank-found wanted rank zero candidates from to = grind arith
 by_rank-found wanted rank (suc ranks) candidates from to =
     found_by wanted rank ranks candidates (nat_eq rank wanted) refl from to (λ next end. by_rank-found wanted (rank + 1) ranks candidates next end)
 
-pub ordered-stable : (candidates : List CandidateData) (rank : ℕ) → 1 ≤ rank → rank ≤ 16 → filter (has_rank rank) (ordered candidates) ≡ filter (has_rank rank) candidates
-ordered-stable candidates rank from to =
+pub in_priority_order-stable : (candidates : List CandidateData) (rank : ℕ) → 1 ≤ rank → rank ≤ 16 → filter (has_rank rank) (in_priority_order candidates) ≡ filter (has_rank rank) candidates
+in_priority_order-stable candidates rank from to =
     let end : rank < 1 + 16 = omega arith in
     by_rank-found rank 1 16 candidates from end

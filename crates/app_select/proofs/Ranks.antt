@@ -4,11 +4,11 @@ use Rattle.std.specs.List.{filter, list_any, slice_get}
 use Rattle.std.specs.Str.{bytes_eq}
 use Rattle.std.proofs.lemmas.Bool.Decides.{nat_tests}
 use Rattle.std.proofs.lemmas.List.{map-append, take_more, drop_more, drop_all, length-map}
-use Rattle.app_select.specs.Candidates.{CandidateData, has_name, firsts_behind, firsts, is_allowed, rank_of, has_rank, by_rank, ordered, allowed, candidates}
+use Rattle.app_select.specs.Candidates.{CandidateData, is_candidate_named, firsts_behind, firsts, is_allowed, priority_rank, has_rank, by_rank, in_priority_order, confirmable, candidates}
 use Rattle.app_select.specs.SeenCandidate.{seen_candidate, seen_all, is_ranked}
 use Rattle.app_select.specs.declared.candidates.Candidate.{Candidate}
 
-pub any_seen : (name : List ℕ) (found : List Candidate) → list_any (λ other. bytes_eq other.name name) found ≡ list_any (has_name name) (seen_all found)
+pub any_seen : (name : List ℕ) (found : List Candidate) → list_any (λ other. bytes_eq other.name name) found ≡ list_any (is_candidate_named name) (seen_all found)
 any_seen name [] = refl
 any_seen name (candidate ∷ found) = ap (λ (b : Bool). bytes_eq candidate.name name || b) (any_seen name found)
 
@@ -43,21 +43,21 @@ ranked_step confirm rank found place candidate inside is =
     let more : take (place + 1) found ≡ take place found ++ candidate ∷ [] = take_more found place candidate inside ∙ ap (λ (c : Candidate). take place found ++ c ∷ []) (sym is) in
     let seen : seen_all (take (place + 1) found) ≡ front ++ this ∷ [] = ap seen_all more ∙ map-append seen_candidate (take place found) (candidate ∷ []) in
     rw (rest, seen)
-    (by_tests confirm rank this (firsts_behind (front ++ this ∷ []) (seen_all (drop (place + 1) found))) (has_rank rank this) (is_allowed confirm this) (list_any (has_name this.name) front) refl refl)
+    (by_tests confirm rank this (firsts_behind (front ++ this ∷ []) (seen_all (drop (place + 1) found))) (has_rank rank this) (is_allowed confirm this) (list_any (is_candidate_named this.name) front) refl refl)
 
 -- no candidate of a rank that is over
-passed : (rank ranks : ℕ) (candidate : CandidateData) (rest : List CandidateData) → rank_of candidate.priority < rank → by_rank rank ranks (candidate ∷ rest) ≡ by_rank rank ranks rest
+passed : (rank ranks : ℕ) (candidate : CandidateData) (rest : List CandidateData) → priority_rank candidate.priority < rank → by_rank rank ranks (candidate ∷ rest) ≡ by_rank rank ranks rest
 passed rank zero candidate rest below = refl
 passed rank (suc ranks) candidate rest below =
     let over : has_rank rank candidate ≡ false = grind (arith, nat_tests) in
-    let next : rank_of candidate.priority < rank + 1 = omega arith in
+    let next : priority_rank candidate.priority < rank + 1 = omega arith in
     rw (over, passed (rank + 1) ranks candidate rest next) refl
 
 one_more_by : (rank ranks : ℕ) (candidate : CandidateData) (rest : List CandidateData) (test : Bool) → has_rank rank candidate ≡ test
     → length (by_rank (rank + 1) ranks (candidate ∷ rest)) ≤ suc (length (by_rank (rank + 1) ranks rest))
     → length (by_rank rank (suc ranks) (candidate ∷ rest)) ≤ suc (length (by_rank rank (suc ranks) rest))
 one_more_by rank ranks candidate rest true is more =
-    let here : rank_of candidate.priority < rank + 1 = grind (arith, nat_tests) in
+    let here : priority_rank candidate.priority < rank + 1 = grind (arith, nat_tests) in
     rw (is, passed (rank + 1) ranks candidate rest here) (omega arith)
 one_more_by rank ranks candidate rest false is more =
     rw is (simp length-append (omega (arith, more)))
@@ -70,29 +70,29 @@ by_rank-none : (rank ranks : ℕ) → by_rank rank ranks [] ≡ []
 by_rank-none rank zero = refl
 by_rank-none rank (suc ranks) = by_rank-none (rank + 1) ranks
 
-rank_within_by : (byte : ℕ) (test : Bool) → (byte % 16 == 0) ≡ test → (1 ≤ rank_of (Some byte)) × (rank_of (Some byte) ≤ 16)
+rank_within_by : (byte : ℕ) (test : Bool) → (byte % 16 == 0) ≡ test → (1 ≤ priority_rank (Some byte)) × (priority_rank (Some byte) ≤ 16)
 rank_within_by byte true is = rw is (omega arith, omega arith)
 rank_within_by byte false is =
     let some : 1 ≤ byte % 16 = grind (arith, nat_tests) in
     rw is (some, omega arith)
 
-rank_within : (priority : Option ℕ) → (1 ≤ rank_of priority) × (rank_of priority ≤ 16)
+rank_within : (priority : Option ℕ) → (1 ≤ priority_rank priority) × (priority_rank priority ≤ 16)
 rank_within None = (omega arith, omega arith)
 rank_within (Some byte) = rank_within_by byte (byte % 16 == 0) refl
 
 -- one candidate comes at its rank
-alone_by : (rank ranks : ℕ) (candidate : CandidateData) (test : Bool) → has_rank rank candidate ≡ test → rank ≤ rank_of candidate.priority
-    → rank_of candidate.priority < rank + suc ranks
-    → (rank + 1 ≤ rank_of candidate.priority → by_rank (rank + 1) ranks (candidate ∷ []) ≡ candidate ∷ [])
+alone_by : (rank ranks : ℕ) (candidate : CandidateData) (test : Bool) → has_rank rank candidate ≡ test → rank ≤ priority_rank candidate.priority
+    → priority_rank candidate.priority < rank + suc ranks
+    → (rank + 1 ≤ priority_rank candidate.priority → by_rank (rank + 1) ranks (candidate ∷ []) ≡ candidate ∷ [])
     → by_rank rank (suc ranks) (candidate ∷ []) ≡ candidate ∷ []
 alone_by rank ranks candidate true is above below later =
-    let here : rank_of candidate.priority < rank + 1 = grind (arith, nat_tests) in
+    let here : priority_rank candidate.priority < rank + 1 = grind (arith, nat_tests) in
     rw (is, passed (rank + 1) ranks candidate [] here, by_rank-none (rank + 1) ranks) refl
 alone_by rank ranks candidate false is above below later =
-    let behind : rank + 1 ≤ rank_of candidate.priority = grind (arith, nat_tests) in
+    let behind : rank + 1 ≤ priority_rank candidate.priority = grind (arith, nat_tests) in
     rw is (later behind)
 
-alone_from : (rank ranks : ℕ) (candidate : CandidateData) → rank ≤ rank_of candidate.priority → rank_of candidate.priority < rank + ranks → by_rank rank ranks (candidate ∷ []) ≡ candidate ∷ []
+alone_from : (rank ranks : ℕ) (candidate : CandidateData) → rank ≤ priority_rank candidate.priority → priority_rank candidate.priority < rank + ranks → by_rank rank ranks (candidate ∷ []) ≡ candidate ∷ []
 alone_from rank zero candidate above below = grind arith
 alone_from rank (suc ranks) candidate above below =
     alone_by rank ranks candidate (has_rank rank candidate) refl above below (λ behind. alone_from (rank + 1) ranks candidate behind (omega (arith, below)))
@@ -105,7 +105,7 @@ pub one_found : (confirm : Bool) (candidate : CandidateData) → candidates conf
 unfolding candidates
 one_found confirm candidate =
     let within = rank_within candidate.priority in
-    elim (is_allowed confirm candidate) as (λ b. ordered (if b then candidate ∷ [] else []) ≡ (if b then candidate ∷ [] else [])) [
+    elim (is_allowed confirm candidate) as (λ b. in_priority_order (if b then candidate ∷ [] else []) ≡ (if b then candidate ∷ [] else [])) [
       | true ↦ alone_from 1 16 candidate within.0 (omega (arith, within.1))
       | false ↦ by_rank-none 1 16
     ]
@@ -140,11 +140,11 @@ firsts_behind-few earlier [] = omega arith
 firsts_behind-few earlier (candidate ∷ found) =
     let rest = firsts_behind-few (earlier ++ candidate ∷ []) found in
     let later = firsts_behind (earlier ++ candidate ∷ []) found in
-    elim (list_any (has_name candidate.name) earlier) as (λ b. length (if b then later else candidate ∷ later) ≤ suc (length found)) [ true ↦ omega (arith, rest) | false ↦ omega (arith, rest) ]
+    elim (list_any (is_candidate_named candidate.name) earlier) as (λ b. length (if b then later else candidate ∷ later) ≤ suc (length found)) [ true ↦ omega (arith, rest) | false ↦ omega (arith, rest) ]
 
-pub ordered-few : (confirm : Bool) (found : List CandidateData) → length (ordered (allowed confirm found)) ≤ length found
-ordered-few confirm found =
-    let a = by_rank-few 1 16 (allowed confirm found) in
+pub in_priority_order-few : (confirm : Bool) (found : List CandidateData) → length (in_priority_order (confirmable confirm found)) ≤ length found
+in_priority_order-few confirm found =
+    let a = by_rank-few 1 16 (confirmable confirm found) in
     let b = filter-few (is_allowed confirm) (firsts found) in
     let c = firsts_behind-few [] found in
     omega (arith, a, b, c)
@@ -169,16 +169,16 @@ rank_step rank among few =
     let one : 17 - rank ≡ suc (17 - (rank + 1)) = omega arith in
     rw one refl
 
-pub ranks_room : (confirm : Bool) (rank : ℕ) (list found : List Candidate) → let among = allowed confirm (seen_all found) in seen_all list ++ by_rank rank (17 - rank) among ≡ ordered among
+pub ranks_room : (confirm : Bool) (rank : ℕ) (list found : List Candidate) → let among = confirmable confirm (seen_all found) in seen_all list ++ by_rank rank (17 - rank) among ≡ in_priority_order among
     → rank ≤ 16 → length found ≤ 256 → length list + length (filter (has_rank rank) among) ≤ 256
 ranks_room confirm rank list found is few most =
-    let among = allowed confirm (seen_all found) in
+    let among = confirmable confirm (seen_all found) in
     let rest = by_rank (rank + 1) (17 - (rank + 1)) among in
     let now = filter (has_rank rank) among in
     let same = ap (λ (xs : List CandidateData). length (seen_all list ++ xs)) (sym (rank_step rank among few)) ∙ ap length is in
     let one : length (seen_all list ++ (now ++ rest)) ≡ length list + (length now + length rest) =
     length-append (seen_all list) (now ++ rest) ∙ ap (λ (n : ℕ). n + length (now ++ rest)) (length-map list seen_candidate) ∙ ap (λ (n : ℕ). length list + n) (length-append now rest) in
-    let all = ordered-few confirm (seen_all found) in
+    let all = in_priority_order-few confirm (seen_all found) in
     let seen = length-map found seen_candidate in
     omega (arith, same, one, all, seen)
 
@@ -186,7 +186,7 @@ pub all_few : (confirm : Bool) (list found : List Candidate) → seen_all list �
 unfolding candidates
 all_few confirm list found is =
     let same = sym (length-map list seen_candidate) ∙ ap length is in
-    let all = ordered-few confirm (seen_all found) in
+    let all = in_priority_order-few confirm (seen_all found) in
     let seen = length-map found seen_candidate in
     omega (arith, same, all, seen)
 
@@ -195,9 +195,9 @@ rank_end rank among over =
     let none : 17 - rank ≡ 0 = omega arith in
     rw none refl
 
-pub all_ranked : (confirm : Bool) (rank : ℕ) (list found : List Candidate) → let among = allowed confirm (seen_all found) in seen_all list ++ by_rank rank (17 - rank) among ≡ ordered among
+pub all_ranked : (confirm : Bool) (rank : ℕ) (list found : List Candidate) → let among = confirmable confirm (seen_all found) in seen_all list ++ by_rank rank (17 - rank) among ≡ in_priority_order among
     → 16 < rank → seen_all list ≡ candidates confirm (seen_all found)
 unfolding candidates
 all_ranked confirm rank list found is over =
     let above : 17 ≤ rank = omega arith in
-    sym (append-nil (seen_all list)) ∙ ap (λ (xs : List CandidateData). seen_all list ++ xs) (sym (rank_end rank (allowed confirm (seen_all found)) above)) ∙ is
+    sym (append-nil (seen_all list)) ∙ ap (λ (xs : List CandidateData). seen_all list ++ xs) (sym (rank_end rank (confirmable confirm (seen_all found)) above)) ∙ is

@@ -11,14 +11,14 @@ pub record CandidateData : Type 0 where
   pub name : List ℕ
   pub priority : Option ℕ
 
-abbrev pub has_name : List ℕ → CandidateData → Bool
-has_name name candidate = bytes_eq candidate.name name
+abbrev pub is_candidate_named : List ℕ → CandidateData → Bool
+is_candidate_named name candidate = bytes_eq candidate.name name
 
 -- the first of each name: those whose name none of the earlier ones has
 abbrev pub firsts_behind : List CandidateData → List CandidateData → List CandidateData
 firsts_behind earlier [] = []
 firsts_behind earlier (candidate ∷ later) =
-    if list_any (has_name candidate.name) earlier then firsts_behind (earlier ++ candidate ∷ []) later
+    if list_any (is_candidate_named candidate.name) earlier then firsts_behind (earlier ++ candidate ∷ []) later
     else candidate ∷ firsts_behind (earlier ++ candidate ∷ []) later
 
 abbrev pub firsts : List CandidateData → List CandidateData
@@ -34,12 +34,12 @@ abbrev pub is_allowed : Bool → CandidateData → Bool
 is_allowed confirm candidate = confirm || not (needs_confirmation candidate.priority)
 
 -- the place in the order, 1 first: bits 4 to 1; without a priority last
-abbrev pub rank_of : Option ℕ → ℕ
-rank_of None = 16
-rank_of (Some byte) = (if byte % 16 == 0 then 16 else byte % 16)
+abbrev pub priority_rank : Option ℕ → ℕ
+priority_rank None = 16
+priority_rank (Some byte) = (if byte % 16 == 0 then 16 else byte % 16)
 
 abbrev pub has_rank : ℕ → CandidateData → Bool
-has_rank rank candidate = rank_of candidate.priority == rank
+has_rank rank candidate = priority_rank candidate.priority == rank
 
 -- those of this rank, then those of the next one, for so many ranks
 abbrev pub by_rank : ℕ → ℕ → List CandidateData → List CandidateData
@@ -47,13 +47,13 @@ by_rank rank zero candidates = []
 by_rank rank (suc ranks) candidates = filter (has_rank rank) candidates ++ by_rank (rank + 1) ranks candidates
 
 -- in the order of priority; those of one priority in the order found
-abbrev pub ordered : List CandidateData → List CandidateData
-ordered candidates = by_rank 1 16 candidates
+abbrev pub in_priority_order : List CandidateData → List CandidateData
+in_priority_order candidates = by_rank 1 16 candidates
 
 -- the first of each name, without those that cannot be confirmed
-abbrev pub allowed : Bool → List CandidateData → List CandidateData
-allowed confirm found = filter (is_allowed confirm) (firsts found)
+abbrev pub confirmable : Bool → List CandidateData → List CandidateData
+confirmable confirm found = filter (is_allowed confirm) (firsts found)
 
 -- the candidates among the applications found
 unfoldable pub candidates : Bool → List CandidateData → List CandidateData
-candidates confirm found = ordered (allowed confirm found)
+candidates confirm found = in_priority_order (confirmable confirm found)

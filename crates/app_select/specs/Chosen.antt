@@ -2,8 +2,8 @@
 -- final SELECT and whose GET PROCESSING OPTIONS went through.
 use Rattle.std.specs.Prelude.{ℕ, List, [], ◌∷◌, Bool, Option, Some, None, option_map}
 use Rattle.app_select.specs.Candidates.{CandidateData, candidates}
-use Rattle.app_select.specs.Listed.{listed, first_fault, found_in}
-use Rattle.app_select.specs.Selecting.{SelectedData, final, or_else, once_listed, unless_fault}
+use Rattle.app_select.specs.Listed.{listed, first_fault, candidates_in}
+use Rattle.app_select.specs.Selecting.{SelectedData, final, or_else, once_listed, stopped_by}
 use Rattle.emv_dict.specs.Progress.{Progress, Wants, Stopped, Done}
 use Rattle.emv_dict.specs.declared.ending.Cause.TheVariants.{NoCandidate}
 use Rattle.emv_dict.specs.declared.purchase.AidRow.{AidRow}
@@ -26,19 +26,19 @@ then_follow follow (Done (Some selected) rest) = with_selected selected (follow 
 then_follow follow (Done None rest) = Done None rest
 
 -- the first of these candidates with which both go through
-abbrev pub first_of : {A : Type 0} → Follow A → List CandidateData → List (List ℕ) → Progress (SelectedData × A)
-first_of follow [] answers = Stopped NoCandidate
-first_of follow (candidate ∷ left) answers = or_else (then_follow follow (final candidate left answers)) (first_of follow left)
+abbrev pub first_through : {A : Type 0} → Follow A → List CandidateData → List (List ℕ) → Progress (SelectedData × A)
+first_through follow [] answers = Stopped NoCandidate
+first_through follow (candidate ∷ left) answers = or_else (then_follow follow (final candidate left answers)) (first_through follow left)
 
 -- the application chosen among the candidates that the list's answers give, and what follows it
 abbrev pub chosen : {A : Type 0} → Follow A → List AidRow → Bool → List (List ℕ) → Progress (SelectedData × A)
 chosen follow rows confirm answers =
     let list = listed rows 0 answers in
-    unless_fault (first_fault list.answers)
-    (once_listed list.left list.turn (first_of follow (candidates confirm (found_in list.answers)) list.rest))
+    stopped_by (first_fault list.answers)
+    (once_listed list.left list.turn (first_through follow (candidates confirm (candidates_in list.answers)) list.rest))
 
 -- a selection, and what follows it; where that refuses the application, the candidates behind it
 abbrev pub followed : {A : Type 0} → Follow A → Progress SelectedData → Progress (SelectedData × A)
 followed follow (Wants command) = Wants command
 followed follow (Stopped cause) = Stopped cause
-followed follow (Done selected rest) = or_else (with_selected selected (follow selected rest)) (first_of follow selected.left)
+followed follow (Done selected rest) = or_else (with_selected selected (follow selected rest)) (first_through follow selected.left)

@@ -57,5 +57,5 @@ unfoldable pub fci_of : List ℕ → Option FciData
 fci_of body = fci_in_template (sole_value 0x6F (items_of body))
 
 -- an object list is no longer than one that can be read
-abbrev pub IsShort : Option (List ℕ) → Type 0
-IsShort pdol = IfSome pdol (λ list. length list ≤ 255)
+abbrev pub IsShortList : Option (List ℕ) → Type 0
+IsShortList pdol = IfSome pdol (λ list. length list ≤ 255)

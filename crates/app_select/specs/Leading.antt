@@ -2,7 +2,7 @@
 use Rattle.std.specs.Prelude.{⊤, ℕ, ◌+◌, ◌-◌, ◌*◌, ◌≤◌, Bool, List, ◌∷◌, length, Option}
 use Rattle.app_select.specs.Candidates.{CandidateData}
 use Rattle.app_select.specs.Listed.{most_occurrences}
-use Rattle.app_select.specs.Selecting.{SelectedData, listing, opening}
+use Rattle.app_select.specs.Selecting.{SelectedData, listing, first_selected}
 use Rattle.emv_dict.specs.Progress.{Progress}
 use Rattle.emv_dict.specs.declared.purchase.AidRow.{AidRow}
 
@@ -17,17 +17,17 @@ pub data SearchData : Type 0 where
 -- the one that is asked for
 abbrev pub rest_with : SearchData → List CandidateData → List (List ℕ) → Progress SelectedData
 rest_with (Listed rows turn confirm) found = listing (record { found = found; rows = rows; turn = turn; confirm = confirm })
-rest_with (Final candidate) left = opening (candidate ∷ left)
+rest_with (Final candidate) left = first_selected (candidate ∷ left)
 
 -- the most answers to SELECT that are still taken: each one of the list may give a candidate
-abbrev pub answers_left : SearchData → List CandidateData → ℕ
-answers_left (Listed rows turn confirm) found = 2 * (most_occurrences * length rows - turn) + length found
-answers_left (Final candidate) left = 1 + length left
+abbrev pub search_answers_left : SearchData → List CandidateData → ℕ
+search_answers_left (Listed rows turn confirm) found = 2 * (most_occurrences * length rows - turn) + length found
+search_answers_left (Final candidate) left = 1 + length left
 
 -- the list's answers to come find no more applications than there is room for
-abbrev pub HasRoom : SearchData → List CandidateData → Type 0
-HasRoom (Listed rows turn confirm) found = length found + most_occurrences * length rows ≤ 256 + turn
-HasRoom (Final candidate) left = ⊤
+abbrev pub HasRoomForCandidates : SearchData → List CandidateData → Type 0
+HasRoomForCandidates (Listed rows turn confirm) found = length found + most_occurrences * length rows ≤ 256 + turn
+HasRoomForCandidates (Final candidate) left = ⊤
 
 -- an application that is selected: its row and its object list (9F38)
 pub record ChoiceData : Type 0 where
@@ -42,5 +42,5 @@ pub record SelectingData : Type 0 where
   pub search : SearchData
   pub candidates : List CandidateData
 
-abbrev pub rest_of : SelectingData → List (List ℕ) → Progress SelectedData
-rest_of state = rest_with state.search state.candidates
+abbrev pub selecting_rest : SelectingData → List (List ℕ) → Progress SelectedData
+selecting_rest state = rest_with state.search state.candidates

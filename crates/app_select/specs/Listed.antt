@@ -4,7 +4,7 @@ use Rattle.std.specs.Prelude.{ℕ, List, [], ◌∷◌, ◌+◌, ◌&&◌, Bool,
 use Rattle.std.specs.List.{filter_map}
 use Rattle.std.specs.Option.{option_or}
 use Rattle.app_select.specs.Candidates.{CandidateData}
-use Rattle.app_select.specs.Said.{SaidData, Unreadable, Blocked, Named, Nothing, select_said, fault_of, is_longer, is_supported}
+use Rattle.app_select.specs.Said.{SaidData, Unreadable, Blocked, Named, Nothing, select_said, cause_said, is_longer, is_supported}
 use Rattle.emv_dict.specs.declared.ending.Cause.{Cause}
 use Rattle.emv_dict.specs.declared.purchase.AidRow.{AidRow}
 
@@ -27,36 +27,36 @@ abbrev pub most_occurrences : ℕ
 most_occurrences = 16
 
 -- the next occurrence is asked for: the name is longer than the AID and begins with it
-abbrev pub goes_on : AidRow → ℕ → SaidData → Bool
-goes_on row turn Unreadable = false
-goes_on row turn Blocked = false
-goes_on row turn (Named is_valid fci) = is_longer row.name fci.name && nat_lt (turn + 1) most_occurrences
-goes_on row turn Nothing = false
+abbrev pub has_next_occurrence : AidRow → ℕ → SaidData → Bool
+has_next_occurrence row turn Unreadable = false
+has_next_occurrence row turn Blocked = false
+has_next_occurrence row turn (Named is_valid fci) = is_longer row.name fci.name && nat_lt (turn + 1) most_occurrences
+has_next_occurrence row turn Nothing = false
 
-abbrev pub numbered : AnswerData → ListedData → ListedData
-numbered answer listed = record { answers = answer ∷ listed.answers; left = listed.left; turn = listed.turn; rest = listed.rest }
+abbrev pub answers_with : AnswerData → ListedData → ListedData
+answers_with answer listed = record { answers = answer ∷ listed.answers; left = listed.left; turn = listed.turn; rest = listed.rest }
 
 -- the answers by AID and occurrence, from this occurrence of the first row on
 abbrev pub listed : List AidRow → ℕ → List (List ℕ) → ListedData
 listed [] turn answers = record { answers = []; left = []; turn = turn; rest = answers }
 listed (row ∷ rows) turn [] = record { answers = []; left = row ∷ rows; turn = turn; rest = [] }
 listed (row ∷ rows) turn (answer ∷ later) =
-    numbered (record { row = row; turn = turn; said = select_said answer })
-    (if goes_on row turn (select_said answer) then listed (row ∷ rows) (turn + 1) later else listed rows 0 later)
+    answers_with (record { row = row; turn = turn; said = select_said answer })
+    (if has_next_occurrence row turn (select_said answer) then listed (row ∷ rows) (turn + 1) later else listed rows 0 later)
 
 -- the first answer that ends the transaction
 abbrev pub first_fault : List AnswerData → Option Cause
 first_fault [] = None
-first_fault (answer ∷ answers) = option_or (fault_of answer.said) (first_fault answers)
+first_fault (answer ∷ answers) = option_or (cause_said answer.said) (first_fault answers)
 
 -- the application that an answer gives; none where it is invalidated or not supported
-abbrev pub found_by : AidRow → SaidData → Option CandidateData
-found_by row Unreadable = None
-found_by row Blocked = None
-found_by row (Named is_valid fci) =
+abbrev pub candidate_by : AidRow → SaidData → Option CandidateData
+candidate_by row Unreadable = None
+candidate_by row Blocked = None
+candidate_by row (Named is_valid fci) =
     if is_valid && is_supported row.name row.partial fci.name
     then Some (record { row = row; name = fci.name; priority = fci.priority }) else None
-found_by row Nothing = None
+candidate_by row Nothing = None
 
-abbrev pub found_in : List AnswerData → List CandidateData
-found_in answers = filter_map (λ answer. found_by answer.row answer.said) answers
+abbrev pub candidates_in : List AnswerData → List CandidateData
+candidates_in answers = filter_map (λ answer. candidate_by answer.row answer.said) answers

@@ -5,7 +5,7 @@ use Rattle.std.specs.Str.{bytes_eq}
 use Rattle.apdu_core.specs.Command.{command_bytes}
 use Rattle.apdu_core.specs.Response.{ResponseData, response_of}
 use Rattle.apdu_core.specs.Status.{no_error, file_invalidated, function_not_supported}
-use Rattle.app_select.specs.Fci.{FciData, fci_of, IsShort}
+use Rattle.app_select.specs.Fci.{FciData, fci_of, IsShortList}
 use Rattle.emv_dict.specs.declared.ending.Cause.{Cause}
 use Rattle.emv_dict.specs.declared.ending.Cause.TheVariants.{Answer, CardBlocked}
 
@@ -37,11 +37,11 @@ unfoldable pub select_said : List ℕ → SaidData
 select_said answer = said_response (response_of answer)
 
 -- why an answer in the list ends the transaction
-abbrev pub fault_of : SaidData → Option Cause
-fault_of Unreadable = Some Answer
-fault_of Blocked = Some CardBlocked
-fault_of (Named is_valid fci) = None
-fault_of Nothing = None
+abbrev pub cause_said : SaidData → Option Cause
+cause_said Unreadable = Some Answer
+cause_said Blocked = Some CardBlocked
+cause_said (Named is_valid fci) = None
+cause_said Nothing = None
 
 -- the name is longer than the AID and begins with it
 abbrev pub is_longer : List ℕ → List ℕ → Bool
@@ -55,5 +55,5 @@ is_supported aid partial name = bytes_eq name aid || (partial && is_longer aid n
 abbrev pub IsSaidShort : SaidData → Type 0
 IsSaidShort Unreadable = ⊤
 IsSaidShort Blocked = ⊤
-IsSaidShort (Named is_valid fci) = IsShort fci.pdol
+IsSaidShort (Named is_valid fci) = IsShortList fci.pdol
 IsSaidShort Nothing = ⊤

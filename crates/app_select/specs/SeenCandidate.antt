@@ -1,7 +1,7 @@
 -- A candidate of the program as a contract sees it.
 use Rattle.std.specs.Prelude.{ℕ, ◌&&◌, Bool, not, List, map}
 use Rattle.std.specs.List.{list_any}
-use Rattle.app_select.specs.Candidates.{CandidateData, has_name, has_rank, is_allowed}
+use Rattle.app_select.specs.Candidates.{CandidateData, is_candidate_named, has_rank, is_allowed}
 use Rattle.app_select.specs.declared.candidates.Candidate.{Candidate}
 
 abbrev pub seen_candidate : Candidate → CandidateData
@@ -12,7 +12,7 @@ seen_all candidates = map seen_candidate candidates
 
 -- the candidate stays behind these
 abbrev pub is_kept : Bool → List CandidateData → CandidateData → Bool
-is_kept confirm earlier candidate = is_allowed confirm candidate && not (list_any (has_name candidate.name) earlier)
+is_kept confirm earlier candidate = is_allowed confirm candidate && not (list_any (is_candidate_named candidate.name) earlier)
 
 -- the same of a rank
 abbrev pub is_ranked : Bool → ℕ → List CandidateData → CandidateData → Bool

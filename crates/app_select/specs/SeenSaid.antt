@@ -13,8 +13,8 @@ seen_proprietary p = record { priority = p.priority; pdol = option_map (λ list.
 abbrev pub seen_fci : Fci → FciData
 seen_fci f = record { name = f.name; priority = f.priority; pdol = option_map (λ list. list.now) f.pdol }
 
-abbrev pub seen_said : Said → spec.SaidData
-seen_said said.Unreadable = spec.Unreadable
-seen_said said.Blocked = spec.Blocked
-seen_said (said.Named valid fci) = spec.Named valid (seen_fci fci)
-seen_said said.Nothing = spec.Nothing
+abbrev pub seen_select_said : Said → spec.SaidData
+seen_select_said said.Unreadable = spec.Unreadable
+seen_select_said said.Blocked = spec.Blocked
+seen_select_said (said.Named valid fci) = spec.Named valid (seen_fci fci)
+seen_select_said said.Nothing = spec.Nothing

@@ -1,7 +1,7 @@
 -- Application selection as a step over the card's answers (EMV 4.3 Book 1 sections 12.3.3 and 12.4).
 use Rattle.std.specs.Prelude.{ℕ, List, [], ◌∷◌, ◌++◌, ◌==◌, Bool, Option, Some, None, if◌then◌else◌}
 use Rattle.app_select.specs.Candidates.{CandidateData, candidates}
-use Rattle.app_select.specs.Listed.{listed, first_fault, found_in}
+use Rattle.app_select.specs.Listed.{listed, first_fault, candidates_in}
 use Rattle.app_select.specs.Said.{SaidData, Unreadable, Blocked, Named, Nothing, select_said, select_command}
 use Rattle.emv_dict.specs.Progress.{Progress, Wants, Stopped, Done}
 use Rattle.emv_dict.specs.declared.ending.Cause.{Cause}
@@ -36,18 +36,18 @@ or_else (Done (Some value) rest) next = Done value rest
 or_else (Done None rest) next = next rest
 
 -- the first of these candidates that is selected
-abbrev pub opening : List CandidateData → List (List ℕ) → Progress SelectedData
-opening [] answers = Stopped NoCandidate
-opening (candidate ∷ left) answers = or_else (final candidate left answers) (opening left)
+abbrev pub first_selected : List CandidateData → List (List ℕ) → Progress SelectedData
+first_selected [] answers = Stopped NoCandidate
+first_selected (candidate ∷ left) answers = or_else (final candidate left answers) (first_selected left)
 
 -- the SELECT of the first row that is left; behind the list what follows it
 abbrev pub once_listed : {A : Type 0} → List AidRow → ℕ → Progress A → Progress A
 once_listed [] turn next = next
 once_listed (row ∷ rows) turn next = Wants (select_command (if turn == 0 then 0 else 2) row.name)
 
-abbrev pub unless_fault : {A : Type 0} → Option Cause → Progress A → Progress A
-unless_fault None next = next
-unless_fault (Some cause) next = Stopped cause
+abbrev pub stopped_by : {A : Type 0} → Option Cause → Progress A → Progress A
+stopped_by None next = next
+stopped_by (Some cause) next = Stopped cause
 
 -- a state of the list: the applications found so far, the rows that are left, and the number of the
 -- occurrence that the first of them is asked for
@@ -61,8 +61,8 @@ pub record ListingData : Type 0 where
 unfoldable pub listing : ListingData → List (List ℕ) → Progress SelectedData
 listing state answers =
     let list = listed state.rows state.turn answers in
-    unless_fault (first_fault list.answers)
-    (once_listed list.left list.turn (opening (candidates state.confirm (state.found ++ found_in list.answers)) list.rest))
+    stopped_by (first_fault list.answers)
+    (once_listed list.left list.turn (first_selected (candidates state.confirm (state.found ++ candidates_in list.answers)) list.rest))
 
 -- the step over the answers, for a terminal with these rows where an application can be confirmed, or cannot
 abbrev pub selecting : List AidRow → Bool → List (List ℕ) → Progress SelectedData

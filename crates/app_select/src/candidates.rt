@@ -116,7 +116,7 @@ impl<'s> Candidates<'s> {
 
 /// The place of a priority in the order, from 1 to 16.
 fn rank_of(priority: Option<u8>) -> u8
-    ensures { result ≡ spec.rank_of priority }
+    ensures { result ≡ spec.priority_rank priority }
 {
     match priority {
         None => LAST_RANK,
@@ -187,8 +187,8 @@ fn push_if<'s>(is_wanted: bool, candidate: &Candidate<'s>, list: &mut List<'s>)
 
 /// Appends those of a rank among the applications found.
 fn push_ranked<'s>(found: &[Candidate<'s>], confirm: bool, rank: u8, list: &mut List<'s>)
-    requires { length list.old.items + length (filter (spec.has_rank rank) (spec.allowed confirm (seen_all found.now))) ≤ 256 }
-    ensures { seen_all list.new.items ≡ seen_all list.old.items ++ filter (spec.has_rank rank) (spec.allowed confirm (seen_all found.now)) }
+    requires { length list.old.items + length (filter (spec.has_rank rank) (spec.confirmable confirm (seen_all found.now))) ≤ 256 }
+    ensures { seen_all list.new.items ≡ seen_all list.old.items ++ filter (spec.has_rank rank) (spec.confirmable confirm (seen_all found.now)) }
 {
     for place in 0..found.len() {
         let candidate = &found[place];

@@ -13,7 +13,7 @@ pub(crate) struct Row<'s> {
 
 /// The row that is asked for, those behind it, and the number of its occurrence from 0.
 #[derive(Drop)]
-pub(crate) struct Course<'s> {
+pub(crate) struct ListTurn<'s> {
     pub row: Row<'s>,
     pub later: &'s [AidRow],
     pub turn: u8,

@@ -4,7 +4,7 @@ ghost use Rattle.ber_tlv.specs.Direct.{first_value as value_in};
 ghost use Rattle.ber_tlv.specs.Left.{items_of};
 ghost use Rattle.app_select.specs.Fci.{fci_in, fci_of, fitting_name, proprietary_in, proprietary_of, with_priority};
 ghost use Rattle.app_select.specs.Said.{select_said, said_fci, IsSaidShort};
-ghost use Rattle.app_select.specs.SeenSaid.{seen_fci, seen_proprietary, seen_said};
+ghost use Rattle.app_select.specs.SeenSaid.{seen_fci, seen_proprietary, seen_select_said};
 
 use apdu_core::read_response;
 use apdu_core::status::{FILE_INVALIDATED, FUNCTION_NOT_SUPPORTED, NO_ERROR};
@@ -47,7 +47,7 @@ pub(crate) enum Said<'a> {
 /// Reads an answer to SELECT.
 #[tactic(auto, using(crate::proofs::Bounds::said_short), unfolding(crate::specs::Said::select_said))]
 pub(crate) fn read_select(reply: &[u8]) -> Said<'_>
-    ensures exact { seen_said result ≡ select_said reply.now }
+    ensures exact { seen_select_said result ≡ select_said reply.now }
     ensures short { IsSaidShort (select_said reply.now) }
 {
     let Ok(response) = read_response(reply) else {
@@ -63,7 +63,7 @@ pub(crate) fn read_select(reply: &[u8]) -> Said<'_>
 
 fn named(valid: bool, body: &[u8]) -> Said<'_>
     requires { length body.now ≤ 256 }
-    ensures { seen_said result ≡ said_fci valid (fci_of body.now) }
+    ensures { seen_select_said result ≡ said_fci valid (fci_of body.now) }
 {
     match read_fci(body) {
         Some(fci) => Said::Named { valid, fci },

@@ -3,11 +3,11 @@ ghost use Rattle.std.specs.Prelude.{◌≡◌, ◌≤◌, ◌<◌, ◌+◌, ◌*
 ghost use Rattle.emv_dict.specs.Progress.{Progress, Wants, Leads};
 ghost use Rattle.emv_dict.specs.Settings.{IsSettings, IsAidRow};
 ghost use Rattle.app_select.specs.Candidates.{CandidateData, candidates as candidates_among};
-ghost use Rattle.app_select.specs.Leading.{rest_with, answers_left, HasRoom};
-ghost use Rattle.app_select.specs.Selecting.{SelectedData, opening, selecting};
+ghost use Rattle.app_select.specs.Leading.{rest_with, search_answers_left, HasRoomForCandidates};
+ghost use Rattle.app_select.specs.Selecting.{SelectedData, first_selected, selecting};
 
 use crate::candidates::{Candidate, Candidates};
-use crate::course::{Course, Row};
+use crate::course::{ListTurn, Row};
 use crate::naming::Found;
 use apdu_core::Out;
 use arrayvec::ArrayVec;
@@ -25,7 +25,7 @@ pub(crate) type Pdol = ArrayVec<u8, 256>;
 #[derive(Drop)]
 pub(crate) enum Asked<'s> {
     /// One of the list. The candidates beside it are those found so far.
-    Listed(Course<'s>),
+    Listed(ListTurn<'s>),
     /// The final one of this candidate. Those beside it stand behind it.
     Final(Candidate<'s>),
 }
@@ -39,13 +39,13 @@ pub struct Search<'s> {
 
 impl<'s> Model for Search<'s> {
     ghost use Rattle.app_select.specs.Leading.{SearchData};
-    ghost use Rattle.app_select.specs.SeenState.{seen_asked, IsSound};
+    ghost use Rattle.app_select.specs.SeenState.{seen_asked, IsOccurrenceInRange};
 
     ghost Value = { SearchData };
 
     ghost view = { λ s. seen_asked s.asked };
 
-    ghost invariant = { λ s. IsSound s.asked };
+    ghost invariant = { λ s. IsOccurrenceInRange s.asked };
 }
 
 /// An application that is selected. The candidates behind it stand beside it.
@@ -77,7 +77,7 @@ pub enum SearchNext<'s> {
 }
 
 impl<'s> Search<'s> {
-    ghost use Rattle.app_select.specs.NextLeads.{SearchNextLeads, NextHasRoom, answers_left_next};
+    ghost use Rattle.app_select.specs.NextLeads.{SearchNextLeads, NextHasRoom, search_answers_left_next};
     ghost use Rattle.app_select.specs.Named.{BeginsWith, HaveRows, all_named};
 
     /// Begins selection for a terminal with these settings, at which the cardholder can confirm an
@@ -85,9 +85,9 @@ impl<'s> Search<'s> {
     pub fn begin(settings: &'s Settings, confirm: bool) -> Search<'s>
         requires { IsSettings settings.now }
         ensures leads { Leads (selecting settings.now.aids confirm) [] (rest_with result []) }
-        ensures room { HasRoom result [] }
+        ensures room { HasRoomForCandidates result [] }
         // Sixteen SELECTs of each of sixteen AIDs, and the final ones of all applications so found.
-        ensures few { answers_left result [] ≤ 16 * 16 + 256 }
+        ensures few { search_answers_left result [] ≤ 16 * 16 + 256 }
     {
         first_row(settings.aids.as_slice(), confirm)
     }
@@ -106,10 +106,10 @@ impl<'s> Search<'s> {
         requires rows { HaveRows settings.now.aids found.now }
         ensures begins { BeginsWith (candidates_among confirm (all_named settings.entry.now.aids found.now)) result candidates.new }
         ensures leads { (whole : List (List ℕ) → Progress SelectedData) (answers : List (List ℕ))
-            → Leads whole answers (opening (candidates_among confirm (all_named settings.entry.now.aids found.now)))
+            → Leads whole answers (first_selected (candidates_among confirm (all_named settings.entry.now.aids found.now)))
             → SearchNextLeads candidates.new whole answers result }
         ensures room { NextHasRoom result candidates.new }
-        ensures few { answers_left_next result candidates.new ≤ 16 }
+        ensures few { search_answers_left_next result candidates.new ≤ 16 }
     {
         candidates.clear();
         push_named(settings.aids.as_slice(), found, candidates);
@@ -127,13 +127,13 @@ impl<'s> Search<'s> {
 
     /// Goes on with the card's answer.
     pub fn take(self, candidates: &mut Candidates<'s>, reply: &[u8]) -> SearchNext<'s>
-        requires { HasRoom self candidates.old }
+        requires { HasRoomForCandidates self candidates.old }
         ensures leads { (whole : List (List ℕ) → Progress SelectedData) (answers : List (List ℕ))
             → Leads whole answers (rest_with self.entry candidates.old)
             → SearchNextLeads candidates.new whole (answers ++ reply.now ∷ []) result }
         ensures room { NextHasRoom result candidates.new }
         // Fewer answers are left to be taken.
-        ensures nearer { answers_left_next result candidates.new < answers_left self.entry candidates.old }
+        ensures nearer { search_answers_left_next result candidates.new < search_answers_left self.entry candidates.old }
     {
         let Search { asked } = self;
         match asked {
@@ -144,7 +144,7 @@ impl<'s> Search<'s> {
 }
 
 impl<'s> Choice<'s> {
-    ghost use Rattle.app_select.specs.NextLeads.{SearchNextLeads, NextHasRoom, answers_left_next};
+    ghost use Rattle.app_select.specs.NextLeads.{SearchNextLeads, NextHasRoom, search_answers_left_next};
 
     /// The terminal's row of the application.
     pub fn row(&self) -> &'s AidRow
@@ -168,9 +168,9 @@ impl<'s> Choice<'s> {
     /// next candidate (EMV 4.3 Book 3 section 10.1).
     pub fn refuse(self, candidates: &mut Candidates<'s>) -> SearchNext<'s>
         ensures leads { (whole : List (List ℕ) → Progress SelectedData) (answers : List (List ℕ))
-            → Leads whole answers (opening candidates.old) → SearchNextLeads candidates.new whole answers result }
+            → Leads whole answers (first_selected candidates.old) → SearchNextLeads candidates.new whole answers result }
         ensures room { NextHasRoom result candidates.new }
-        ensures nearer { answers_left_next result candidates.new ≤ length candidates.old }
+        ensures nearer { search_answers_left_next result candidates.new ≤ length candidates.old }
     {
         choose(candidates)
     }

@@ -4,11 +4,11 @@ ghost use Rattle.emv_dict.specs.Progress.{Progress, Wants, Leads};
 ghost use Rattle.emv_dict.specs.Settings.{IsSettings, IsAidRow};
 ghost use Rattle.emv_dict.specs.declared.purchase.AidRow.{AidRow};
 ghost use Rattle.app_select.specs.Candidates.{CandidateData, candidates as candidates_among};
-ghost use Rattle.app_select.specs.Chosen.{Follow, chosen, first_of, followed};
-ghost use Rattle.app_select.specs.Leading.{rest_of};
+ghost use Rattle.app_select.specs.Chosen.{Follow, chosen, first_through, followed};
+ghost use Rattle.app_select.specs.Leading.{selecting_rest};
 ghost use Rattle.app_select.specs.Named.{BeginsWith, SelectBeginsWith, HaveRows, all_named};
 ghost use Rattle.app_select.specs.NextLeads.{SearchNextLeads, NextHasRoom, SelectNextLeads};
-ghost use Rattle.app_select.specs.Selecting.{SelectedData, opening, selecting};
+ghost use Rattle.app_select.specs.Selecting.{SelectedData, first_selected, selecting};
 
 use crate::candidates::Candidates;
 use crate::naming::{Found, MOST_NAMES};
@@ -19,7 +19,7 @@ use emv_dict::{AidRow, Cause, Settings};
 use std::marker::Model;
 
 /// Application selection that waits for an answer to SELECT, with its candidates: `Search` leaves them where
-/// they are. What the rest of it makes of the answers to come is `rest_of`.
+/// they are. What the rest of it makes of the answers to come is `selecting_rest`.
 #[derive(Drop)]
 pub struct Selecting<'s> {
     search: Search<'s>,
@@ -27,13 +27,13 @@ pub struct Selecting<'s> {
 }
 
 impl<'s> Model for Selecting<'s> {
-    ghost use Rattle.app_select.specs.Leading.{SelectingData, HasRoom};
+    ghost use Rattle.app_select.specs.Leading.{SelectingData, HasRoomForCandidates};
 
     ghost Value = { SelectingData };
 
     ghost view = { λ s. record { search = s.search; candidates = s.candidates } };
 
-    ghost invariant = { λ s. HasRoom s.search s.candidates };
+    ghost invariant = { λ s. HasRoomForCandidates s.search s.candidates };
 }
 
 /// An application that is selected, with the candidates behind it.
@@ -67,7 +67,7 @@ impl<'s> Selecting<'s> {
     /// As `Search::begin`.
     pub fn begin(settings: &'s Settings, confirm: bool) -> Selecting<'s>
         requires { IsSettings settings.now }
-        ensures leads { Leads (selecting settings.now.aids confirm) [] (rest_of result) }
+        ensures leads { Leads (selecting settings.now.aids confirm) [] (selecting_rest result) }
     {
         Selecting {
             search: Search::begin(settings, confirm),
@@ -93,7 +93,7 @@ impl<'s> Selecting<'s> {
     /// As `Search::ask`.
     pub fn ask(&self, out: &mut Out)
         ensures wants { (whole : List (List ℕ) → Progress SelectedData) (answers : List (List ℕ))
-            → Leads whole answers (rest_of self.now) → whole answers ≡ Wants out.new.items }
+            → Leads whole answers (selecting_rest self.now) → whole answers ≡ Wants out.new.items }
     {
         self.search.ask(out);
     }
@@ -101,7 +101,7 @@ impl<'s> Selecting<'s> {
     /// As `Search::take`.
     pub fn take(self, reply: &[u8]) -> SelectNext<'s>
         ensures leads { (whole : List (List ℕ) → Progress SelectedData) (answers : List (List ℕ))
-            → Leads whole answers (rest_of self.entry) → SelectNextLeads whole (answers ++ reply.now ∷ []) result }
+            → Leads whole answers (selecting_rest self.entry) → SelectNextLeads whole (answers ++ reply.now ∷ []) result }
     {
         let Selecting {
             search,
@@ -131,7 +131,7 @@ impl<'s> Selected<'s> {
     /// As `Choice::refuse`.
     pub fn refuse(self) -> SelectNext<'s>
         ensures leads { (whole : List (List ℕ) → Progress SelectedData) (answers : List (List ℕ))
-            → Leads whole answers (opening self.entry.left) → SelectNextLeads whole answers result }
+            → Leads whole answers (first_selected self.entry.left) → SelectNextLeads whole answers result }
     {
         let Selected {
             choice,
@@ -162,5 +162,5 @@ pub fn steps_give_chosen<A>()
     ensures listed { (follow : Follow A) (rows : List AidRow) (confirm : Bool) (answers : List (List ℕ))
         → followed follow (selecting rows confirm answers) ≡ chosen follow rows confirm answers }
     ensures opened { (follow : Follow A) (candidates : List CandidateData) (answers : List (List ℕ))
-        → followed follow (opening candidates answers) ≡ first_of follow candidates answers }
+        → followed follow (first_selected candidates answers) ≡ first_through follow candidates answers }
 {}

@@ -7,7 +7,7 @@ use Rattle.auth_message.specs.declared.groups.Paid.{Paid}
 use Rattle.auth_message.specs.declared.message.Incoming.{Incoming}
 use Rattle.auth_message.specs.declared.message.Incoming.TheVariants.{Request, Present, Reverse}
 use Rattle.auth_message.specs.declared.reversal.ReversalFields.{ReversalFields}
-use Rattle.auth_message.specs.Accepted.{AreDigits, IsRequest, IsPresent, IsReversal}
+use Rattle.auth_message.specs.Accepted.{AreDigitBytes, IsRequest, IsPresent, IsReversal}
 use Rattle.auth_message.specs.Data.{RequestData, PresentData, NamedSizes, PaidSizes}
 use Rattle.auth_message.specs.Fields.{◌>>=◌, fixed_if_there}
 use Rattle.auth_message.specs.Message.{message_of, message_in}
@@ -27,7 +27,7 @@ PresentSizes f = NamedSizes f.named × PaidSizes f.paid × (length f.t8a ≡ 2)
 abbrev pub ReversalSizes : ReversalFields → Type 0
 ReversalSizes f = (length f.t9f1c ≡ 8) × IfSome f.t5f34 (λ v. length v ≡ 1) × (length f.t9f36 ≡ 2) × (length f.t9f02 ≡ 6) × (length f.t5f2a ≡ 2) × (length f.t8a ≡ 2)
 
-sequence : (value : Option (List ℕ)) → IfSome value (λ v. length v ≡ 1) → IfSome value AreDigits → IsOptional 1 true value
+sequence : (value : Option (List ℕ)) → IfSome value (λ v. length v ≡ 1) → IfSome value AreDigitBytes → IsOptional 1 true value
 sequence None size digits = tt
 sequence (Some value) size digits = digit_bytes 1 value size digits
 
@@ -60,11 +60,11 @@ block_again place value is =
     (again.0, ap (λ l. fixed_if_there 8 false 0xDF11 (placed place l)) (sym (append-nil (optional 0xDF11 value))) ∙ again.1)
 
 -- what names a transaction, as it is read back
-named_is : (named : Named) → pan_of (pan_field named.pan) ≡ Ok named.pan → IfSome named.t5f34 AreDigits → NamedSizes named → IsNamed named
+named_is : (named : Named) → pan_of (pan_field named.pan) ≡ Ok named.pan → IfSome named.t5f34 AreDigitBytes → NamedSizes named → IsNamed named
 named_is named account digits sizes = record { terminal = sizes.0; account = account; sequence = sequence named.t5f34 sizes.1 digits }
 
 -- a payment, as it is read back
-paid_is : (paid : Paid) → AreDigits paid.t9f02 → AreDigits paid.t9f03 → AreDigits paid.t5f2a → AreDigits paid.t9a → PaidSizes paid → IsPaid paid
+paid_is : (paid : Paid) → AreDigitBytes paid.t9f02 → AreDigitBytes paid.t9f03 → AreDigitBytes paid.t5f2a → AreDigitBytes paid.t9a → PaidSizes paid → IsPaid paid
 paid_is paid amount other currency date sizes = record {
   t9f02 = digit_bytes 6 paid.t9f02 sizes.0 amount;
   t9f03 = digit_bytes 6 paid.t9f03 sizes.1 other;

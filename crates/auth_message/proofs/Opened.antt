@@ -5,7 +5,7 @@ use Rattle.std.specs.List.{list_any}
 use Rattle.ber_tlv.specs.Item.{ItemData, item_at, tag_at, length_at, value_at}
 use Rattle.ber_tlv.specs.Items.{NextItem, NextFault}
 use Rattle.ber_tlv.specs.Left.{items_behind, items_of, fault_of, then_left}
-use Rattle.ber_tlv.specs.Place.{place_of}
+use Rattle.ber_tlv.specs.FaultPlace.{place_of_fault}
 use Rattle.ber_tlv.specs.Walked.{Walked, walk_of}
 use Rattle.ber_tlv.specs.declared.item.TlvFault.{TlvFault}
 use Rattle.ber_tlv.specs.declared.item.Item.{Item}
@@ -14,7 +14,7 @@ use Rattle.ber_tlv.proofs.ItemBounds.{step-ok, chosen-ok}
 use Rattle.ber_tlv.proofs.Reading.{left-fault}
 use Rattle.ber_tlv.proofs.Walking.{walk-item, walk-fault}
 use Rattle.auth_message.specs.declared.fault.MessageFault.TheVariants.{Coding}
-use Rattle.auth_message.specs.Outer.{held, items_within, first_met, fault_in, outer_of, outer_among, outer_within}
+use Rattle.auth_message.specs.Outer.{items_held, items_within, first_met, fault_in, outer_of, outer_among, outer_within}
 
 value_start : (bytes : List ℕ) (start tag place count : ℕ) (item : ItemData) (next : ℕ) → value_at bytes start tag place count ≡ Ok (item, next) → item.start ≡ start
 unfolding value_at
@@ -33,7 +33,7 @@ start_of bytes start item next stands =
     let count = step-ok (length_at bytes start tag.0.1) _ _ tag.2 in
     value_start bytes start tag.0.0 count.0.1 count.0.0 item next count.2
 
-pub held_is : (bytes : List ℕ) (place : ℕ) (item : ItemData) (next : ℕ) → NextItem bytes place item next → held bytes item ≡ items_behind (take next bytes) (next - length item.value)
+pub held_is : (bytes : List ℕ) (place : ℕ) (item : ItemData) (next : ℕ) → NextItem bytes place item next → items_held bytes item ≡ items_behind (take next bytes) (next - length item.value)
 held_is bytes place item next step =
     ap (λ s. items_within bytes (item_at bytes s)) (start_of bytes step.start item next step.stands) ∙ ap (items_within bytes) step.stands
 
@@ -65,10 +65,10 @@ found_first known bytes item next others r first rest inside =
 
 -- the same where a fault stands behind the first item
 broken_behind : (known bytes : List ℕ) (item : ItemData) (next : ℕ) (fault : TlvFault) (r : Result (List ItemData) TlvFault) → First bytes item next → items_behind bytes next ≡ Err fault
-    → items_behind (take next bytes) (next - length item.value) ≡ r → outer_of known bytes ≡ Err (Coding (place_of (unwrap_or (fault_of r) fault)))
+    → items_behind (take next bytes) (next - length item.value) ≡ r → outer_of known bytes ≡ Err (Coding (place_of_fault (unwrap_or (fault_of r) fault)))
 broken_behind known bytes item next fault r first rest inside =
     ap (outer_among known bytes (fault_in bytes (first_met (walk_of bytes)))) (sym first.left ∙ ap (then_left item) rest)
-    ∙ ap (λ f. Err (Coding (place_of (unwrap_or f fault)))) (fault_first bytes item next r first inside)
+    ∙ ap (λ f. Err (Coding (place_of_fault (unwrap_or f fault)))) (fault_first bytes item next r first inside)
 
 -- where the message has no fault, what is left has none
 others_of : (item : ItemData) (r : Result (List ItemData) TlvFault) → None ≡ fault_of (then_left item r) → (others : List ItemData) × (r ≡ Ok others)
@@ -87,14 +87,14 @@ items_are (Ok items) h = (items, refl)
 items_are (Err fault) h = absurd cc
 
 -- no item stands at the front of the message
-pub first_fault_is : (known bytes : List ℕ) (place : ℕ) (fault : TlvFault) → NextFault bytes 0 fault → place ≡ place_of fault → outer_of known bytes ≡ Err (Coding place)
+pub first_fault_is : (known bytes : List ℕ) (place : ℕ) (fault : TlvFault) → NextFault bytes 0 fault → place ≡ place_of_fault fault → outer_of known bytes ≡ Err (Coding place)
 first_fault_is known bytes place fault broken at =
     ap (λ (w : Walked). outer_among known bytes (fault_in bytes (first_met w)) (items_of bytes)) (walk-fault bytes 0 fault broken)
     ∙ ap (outer_among known bytes None) (left-fault bytes 0 fault broken) ∙ ap (λ n. Err (Coding n)) (sym at)
 
 -- a fault among the items of its value
 pub value_fault : (known bytes : List ℕ) (item : ItemData) (next place : ℕ) (fault : TlvFault) → First bytes item next
-    → Some fault ≡ fault_of (items_behind (take next bytes) (next - length item.value)) → place ≡ place_of fault → outer_of known bytes ≡ Err (Coding place)
+    → Some fault ≡ fault_of (items_behind (take next bytes) (next - length item.value)) → place ≡ place_of_fault fault → outer_of known bytes ≡ Err (Coding place)
 value_fault known bytes item next place fault first broken at = by (items_behind bytes next) refl
   where
     inside : items_behind (take next bytes) (next - length item.value) ≡ Err fault
@@ -106,7 +106,7 @@ value_fault known bytes item next place fault first broken at = by (items_behind
 
 -- a fault behind the first item, whose value has none
 pub fault_after : (known bytes : List ℕ) (item : ItemData) (next place : ℕ) (fault : TlvFault) → First bytes item next → Some fault ≡ fault_of (items_of bytes)
-    → None ≡ fault_of (items_behind (take next bytes) (next - length item.value)) → place ≡ place_of fault → outer_of known bytes ≡ Err (Coding place)
+    → None ≡ fault_of (items_behind (take next bytes) (next - length item.value)) → place ≡ place_of_fault fault → outer_of known bytes ≡ Err (Coding place)
 fault_after known bytes item next place fault first broken good at =
     let inside = items_are _ good in
     ap (λ (f : Option TlvFault). outer_among known bytes f (items_of bytes)) (fault_first bytes item next (Ok inside.0) first inside.1)

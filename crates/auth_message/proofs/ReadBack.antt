@@ -4,9 +4,9 @@ use Rattle.ber_tlv.specs.Written.{written}
 use Rattle.emv_dict.specs.Pan.{pan_of, pan_field}
 use Rattle.auth_message.specs.declared.groups.Named.{Named}
 use Rattle.auth_message.specs.declared.groups.Paid.{Paid}
-use Rattle.auth_message.specs.Accepted.{AreDigits}
+use Rattle.auth_message.specs.Accepted.{AreDigitBytes}
 use Rattle.auth_message.specs.Field.{is_fixed, fixed_value, some_value}
-use Rattle.auth_message.specs.Fields.{given, behind, wanted, fixed_at, some_at, pan_at, fixed_if_there}
+use Rattle.auth_message.specs.Fields.{field_given, behind_field, required_field, fixed_at, some_at, pan_at, fixed_if_there}
 use Rattle.auth_message.specs.Groups.{named_at, paid_at}
 use Rattle.auth_message.specs.Spelling.{optional, named_fields, paid_fields}
 use Rattle.auth_message.proofs.Spelled.{placed}
@@ -18,7 +18,7 @@ itself n = grind arith
 pub any_bytes : (count : ℕ) (value : List ℕ) → length value ≡ count → is_fixed count false value ≡ true
 any_bytes count value size = rw (size, itself count) refl
 
-pub digit_bytes : (count : ℕ) (value : List ℕ) → length value ≡ count → AreDigits value → is_fixed count true value ≡ true
+pub digit_bytes : (count : ℕ) (value : List ℕ) → length value ≡ count → AreDigitBytes value → is_fixed count true value ≡ true
 digit_bytes count value size digits = rw (size, itself count) digits
 
 -- where the items begin that stand behind this field
@@ -27,23 +27,23 @@ next_place place tag value = place + length (written tag value)
 
 pub fixed_again : (count : ℕ) (numeric : Bool) (tag place : ℕ) (value : List ℕ) (rest : List (ℕ × List ℕ)) → is_fixed count numeric value ≡ true
     → fixed_at count numeric tag (placed place ((tag, value) ∷ rest)) ≡ Ok (value, placed (next_place place tag value) rest)
-unfolding fixed_at wanted fixed_value next_place
+unfolding fixed_at required_field fixed_value next_place
 fixed_again count numeric tag place value rest is = rw (itself tag, is) refl
 
 pub some_again : (least most tag place : ℕ) (value : List ℕ) (rest : List (ℕ × List ℕ)) → (nat_le least (length value) && nat_le (length value) most) ≡ true
     → some_at least most tag (placed place ((tag, value) ∷ rest)) ≡ Ok (value, placed (next_place place tag value) rest)
-unfolding some_at wanted some_value next_place
+unfolding some_at required_field some_value next_place
 some_again least most tag place value rest is = rw (itself tag, is) refl
 
 pub pan_again : (place : ℕ) (pan : List ℕ) (rest : List (ℕ × List ℕ)) → pan_of (pan_field pan) ≡ Ok pan
     → pan_at (placed place ((0x5A, pan_field pan) ∷ rest)) ≡ Ok (pan, placed (next_place place 0x5A (pan_field pan)) rest)
-unfolding pan_at wanted next_place
+unfolding pan_at required_field next_place
 pan_again place pan rest again = rw again refl
 
 -- no field of this tag comes first
 pub record IsOther (tag : ℕ) (rest : List (ℕ × List ℕ)) : Type 0 where
-  pub absent : (place : ℕ) → given tag (placed place rest) ≡ None
-  pub left : (place : ℕ) → behind tag (placed place rest) ≡ placed place rest
+  pub absent : (place : ℕ) → field_given tag (placed place rest) ≡ None
+  pub left : (place : ℕ) → behind_field tag (placed place rest) ≡ placed place rest
 
 abbrev pub IsOptional : ℕ → Bool → Option (List ℕ) → Type 0
 IsOptional count numeric value = IfSome value (λ v. is_fixed count numeric v ≡ true)

@@ -12,8 +12,8 @@ use Rattle.ber_tlv.proofs.ItemBounds.{item_at-lies}
 use Rattle.ber_tlv.proofs.ReadAgain.{both}
 use Rattle.ber_tlv.proofs.Reading.{reads_list, Items-left}
 use Rattle.auth_message.specs.Field.{fixed_value, some_value}
-use Rattle.auth_message.specs.Fields.{◌>>=◌, given, behind, wanted, fixed_at}
-use Rattle.auth_message.specs.Reply.{AreScripts, auth_at, is_template, templates, behind_templates, end_in, end_of, end_behind, bytes_of, scripts_at, reply_at, reply_of}
+use Rattle.auth_message.specs.Fields.{◌>>=◌, field_given, behind_field, required_field, fixed_at}
+use Rattle.auth_message.specs.Reply.{AreScripts, auth_at, is_template, leading_templates, behind_templates, place_behind, place_behind_item, end_behind, bytes_of_items, scripts_in_items, reply_at, reply_of}
 use Rattle.auth_message.specs.Whole.{AreSpelledScripts, IsReply}
 use Rattle.auth_message.proofs.Templates.{spelled_are_scripts}
 use Rattle.auth_message.specs.Spelling.{optional, spelled, reply_fields, reply_bytes}
@@ -58,36 +58,36 @@ all_stand bytes place [] zeros = tt
 all_stand bytes place (item ∷ items) (next, step, rest) =
     ((next, ap (item_at bytes) (start_of bytes step.start item next step.stands) ∙ step.stands), all_stand bytes next items rest)
 
-end_moved : (bytes whole : List ℕ) (front : ℕ) (item : ItemData) → Inside bytes whole front → Stands bytes item → end_of whole (moved_item front item) ≡ front + end_of bytes item
+end_moved : (bytes whole : List ℕ) (front : ℕ) (item : ItemData) → Inside bytes whole front → Stands bytes item → place_behind_item whole (moved_item front item) ≡ front + place_behind_item bytes item
 end_moved bytes whole front item inside (next, stands) =
-    ap end_in (item_inside bytes whole front item.start item next inside stands) ∙ ap (λ r. front + end_in r) (sym stands)
+    ap place_behind (item_inside bytes whole front item.start item next inside stands) ∙ ap (λ r. front + place_behind r) (sym stands)
 
 ends_moved : (bytes whole : List ℕ) (front end : ℕ) (items : List ItemData) → Inside bytes whole front → AllByRecursion (Stands bytes) items
     → end_behind whole (front + end) (map (moved_item front) items) ≡ front + end_behind bytes end items
 ends_moved bytes whole front end [] inside stand = refl
 ends_moved bytes whole front end (item ∷ items) inside stand =
-    ap (λ n. end_behind whole n (map (moved_item front) items)) (end_moved bytes whole front item inside stand.0) ∙ ends_moved bytes whole front (end_of bytes item) items inside stand.1
+    ap (λ n. end_behind whole n (map (moved_item front) items)) (end_moved bytes whole front item inside stand.0) ∙ ends_moved bytes whole front (place_behind_item bytes item) items inside stand.1
 
-end_within : (bytes : List ℕ) (item : ItemData) → Stands bytes item → end_of bytes item ≤ length bytes
+end_within : (bytes : List ℕ) (item : ItemData) → Stands bytes item → place_behind_item bytes item ≤ length bytes
 end_within bytes item (next, stands) =
     let lies = item_at-lies bytes item.start item next stands in
     let within = lies.within in
-    let end : end_of bytes item ≡ next = ap end_in stands in
+    let end : place_behind_item bytes item ≡ next = ap place_behind stands in
     omega arith
 
 ends_inside : (bytes : List ℕ) (end : ℕ) (items : List ItemData) → end ≤ length bytes → AllByRecursion (Stands bytes) items → end_behind bytes end items ≤ length bytes
 ends_inside bytes end [] within stand = within
-ends_inside bytes end (item ∷ items) within stand = ends_inside bytes (end_of bytes item) items (end_within bytes item stand.0) stand.1
+ends_inside bytes end (item ∷ items) within stand = ends_inside bytes (place_behind_item bytes item) items (end_within bytes item stand.0) stand.1
 
-bytes_moved : (bytes whole : List ℕ) (front : ℕ) (items : List ItemData) → Inside bytes whole front → AllByRecursion (Stands bytes) items → bytes_of whole (map (moved_item front) items) ≡ bytes_of bytes items
+bytes_moved : (bytes whole : List ℕ) (front : ℕ) (items : List ItemData) → Inside bytes whole front → AllByRecursion (Stands bytes) items → bytes_of_items whole (map (moved_item front) items) ≡ bytes_of_items bytes items
 bytes_moved bytes whole front [] inside stand = refl
 bytes_moved bytes whole front (item ∷ items) inside stand =
-    let first : end_of whole (moved_item front item) ≡ front + end_of bytes item = end_moved bytes whole front item inside stand.0 in
-    let last = ap (λ n. end_behind whole n (map (moved_item front) items)) first ∙ ends_moved bytes whole front (end_of bytes item) items inside stand.1 in
+    let first : place_behind_item whole (moved_item front item) ≡ front + place_behind_item bytes item = end_moved bytes whole front item inside stand.0 in
+    let last = ap (λ n. end_behind whole n (map (moved_item front) items)) first ∙ ends_moved bytes whole front (place_behind_item bytes item) items inside stand.1 in
     ap (slice_range whole (front + item.start)) last
-    ∙ inside.range item.start (end_behind bytes (end_of bytes item) items) (ends_inside bytes (end_of bytes item) items (end_within bytes item stand.0) stand.1)
+    ∙ inside.range item.start (end_behind bytes (place_behind_item bytes item) items) (ends_inside bytes (place_behind_item bytes item) items (end_within bytes item stand.0) stand.1)
 
-templates_moved : (front : ℕ) (items : List ItemData) → list_all is_template items ≡ true → (templates (map (moved_item front) items) ≡ map (moved_item front) items) × (behind_templates (map (moved_item front) items) ≡ [])
+templates_moved : (front : ℕ) (items : List ItemData) → list_all is_template items ≡ true → (leading_templates (map (moved_item front) items) ≡ map (moved_item front) items) × (behind_templates (map (moved_item front) items) ≡ [])
 templates_moved front [] all = (refl, refl)
 templates_moved front (item ∷ items) all =
     let facts = both (is_template item) _ all in
@@ -98,12 +98,12 @@ length_moved : (front : ℕ) (items : List ItemData) → length (map (moved_item
 length_moved front [] = refl
 length_moved front (item ∷ items) = ap suc (length_moved front items)
 
-scripts_again : (bytes whole : List ℕ) (front : ℕ) (scripts : AreScripts bytes) → Inside bytes whole front → scripts_at whole (map (moved_item front) scripts.items) ≡ Ok (bytes, [])
-unfolding scripts_at
+scripts_again : (bytes whole : List ℕ) (front : ℕ) (scripts : AreScripts bytes) → Inside bytes whole front → scripts_in_items whole (map (moved_item front) scripts.items) ≡ Ok (bytes, [])
+unfolding scripts_in_items
 scripts_again bytes whole front scripts inside =
     let stand = all_stand bytes 0 scripts.items ((reads_list bytes scripts.items).0 scripts.listed) in
     let moved = templates_moved front scripts.items scripts.templates in
-    let same : bytes_of whole (map (moved_item front) scripts.items) ≡ bytes = bytes_moved bytes whole front scripts.items inside stand ∙ scripts.no_padding in
+    let same : bytes_of_items whole (map (moved_item front) scripts.items) ≡ bytes = bytes_moved bytes whole front scripts.items inside stand ∙ scripts.no_padding in
     let few : nat_le (length scripts.items) 8 ≡ true = le-leb _ _ scripts.few in
     let short : nat_le (length bytes) 1024 ≡ true = le-leb _ _ scripts.short in
     rw (moved.0, moved.1, same, length_moved front scripts.items, few, short) refl
@@ -112,13 +112,13 @@ itself : (n : ℕ) → (n == n) ≡ true
 itself n = grind arith
 
 code_front : (place : ℕ) (code : List ℕ) (rest : List ItemData) → length code ≡ 2 → fixed_at 2 false 0x8A (record { tag = 0x8A; value = code; start = place } ∷ rest) ≡ Ok (code, rest)
-unfolding fixed_at wanted fixed_value
+unfolding fixed_at required_field fixed_value
 code_front place code rest two = rw (any_bytes 2 code two) refl
 
 no_template : (tag : ℕ) → (tag == 0x71 || tag == 0x72) ≡ true → (tag == 0x91) ≡ false
 no_template tag is = grind (arith, nat_tests)
 
-other_first : (items : List ItemData) → list_all is_template items ≡ true → (given 0x91 items ≡ None) × (behind 0x91 items ≡ items)
+other_first : (items : List ItemData) → list_all is_template items ≡ true → (field_given 0x91 items ≡ None) × (behind_field 0x91 items ≡ items)
 other_first [] all = (refl, refl)
 other_first (item ∷ items) all =
     let facts = both (is_template item) _ all in

@@ -3,7 +3,7 @@ use Rattle.std.proofs.Common.{◌≡◌, ℕ, Bool, true, ◌&&◌, ◌+◌, ◌
 use Rattle.std.specs.List.{list_all, list_any}
 use Rattle.std.proofs.lemmas.Bool.Decides.{nat_tests}
 use Rattle.ber_tlv.specs.Item.{ItemData, item_at}
-use Rattle.ber_tlv.specs.Items.{Begins, NextItem}
+use Rattle.ber_tlv.specs.Items.{HasObjectAt, NextItem}
 use Rattle.ber_tlv.specs.Left.{items_behind, then_left}
 use Rattle.ber_tlv.specs.Tag.{is_readable}
 use Rattle.ber_tlv.specs.Written.{tag_bytes, length_bytes, written}
@@ -42,7 +42,7 @@ front_get [] rest byte = refl
 front_get (x ∷ front) rest byte = front_get front rest byte
 
 -- the first byte of a tag stands where the tag does
-begins : (front rest bytes : List ℕ) → bytes ≡ front ++ rest → 0 < slice_index rest 0 → Begins bytes (length front)
+begins : (front rest bytes : List ℕ) → bytes ≡ front ++ rest → 0 < slice_index rest 0 → HasObjectAt bytes (length front)
 begins front [] bytes same positive = absurd (omega arith)
 begins front (byte ∷ rest) bytes same positive = record { byte = byte; there = ap (λ b. slice_get b (length front)) same ∙ front_get front rest byte; not_zero = positive }
 

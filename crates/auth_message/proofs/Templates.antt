@@ -7,7 +7,7 @@ use Rattle.ber_tlv.specs.Left.{items_behind}
 use Rattle.ber_tlv.specs.Written.{written}
 use Rattle.ber_tlv.proofs.ReadAgain.{both}
 use Rattle.ber_tlv.proofs.Reading.{no_zeros, left-end}
-use Rattle.auth_message.specs.Reply.{AreScripts, names_script, is_template, end_in, end_of, end_behind, bytes_of}
+use Rattle.auth_message.specs.Reply.{AreScripts, names_script, is_template, place_behind, place_behind_item, end_behind, bytes_of_items}
 use Rattle.auth_message.specs.Spelling.{spelled}
 use Rattle.auth_message.specs.Whole.{AreSpelledScripts}
 use Rattle.auth_message.proofs.Opened.{stands_at}
@@ -49,7 +49,7 @@ ends_placed (field ∷ fields) front rest bytes are same =
     let here : bytes ≡ front ++ (this ++ (spelled fields ++ rest)) = same ∙ simp append_assoc in
     let next : length (front ++ this) ≡ length front + length this = length-append front this in
     let step = field_step front (spelled fields ++ rest) bytes field.0 field.1 facts.0 here in
-    let stands : end_of bytes (record { tag = field.0; value = field.1; start = length front }) ≡ length front + length this = ap end_in (stands_at bytes bytes (length front) (record { tag = field.0; value = field.1; start = length front }) (length front + length this) refl step) in
+    let stands : place_behind_item bytes (record { tag = field.0; value = field.1; start = length front }) ≡ length front + length this = ap place_behind (stands_at bytes bytes (length front) (record { tag = field.0; value = field.1; start = length front }) (length front + length this) refl step) in
     let others = ends_placed fields (front ++ this) rest bytes facts.1 again in
     ap (λ n. end_behind bytes n (placed (length front + length this) fields ++ [])) stands
     ∙ ap (λ n. end_behind bytes n (placed n fields ++ [])) (sym next) ∙ others ∙ omega (arith, length-append this (spelled fields))
@@ -59,7 +59,7 @@ whole_range bytes count same =
     let all : count - 0 ≡ length bytes = omega arith in
     ap (λ n. take n bytes) all ∙ take_whole bytes
 
-bytes_placed : (fields : List (ℕ × List ℕ)) (bytes : List ℕ) → are_tags fields ≡ true → bytes ≡ spelled fields → bytes_of bytes (placed 0 fields ++ []) ≡ bytes
+bytes_placed : (fields : List (ℕ × List ℕ)) (bytes : List ℕ) → are_tags fields ≡ true → bytes ≡ spelled fields → bytes_of_items bytes (placed 0 fields ++ []) ≡ bytes
 bytes_placed [] bytes are same = sym same
 bytes_placed (field ∷ fields) bytes are same =
     let end = ends_placed (field ∷ fields) [] [] bytes are (same ∙ sym (append-nil (spelled (field ∷ fields)))) in

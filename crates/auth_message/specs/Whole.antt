@@ -4,7 +4,7 @@ use Rattle.std.specs.List.{list_all}
 use Rattle.emv_dict.specs.Settings.{is_code}
 use Rattle.auth_message.specs.declared.message.Incoming.{Incoming}
 use Rattle.auth_message.specs.declared.message.Incoming.TheVariants.{Request, Present, Reverse}
-use Rattle.auth_message.specs.Accepted.{AreDigits, IsRequest, IsPresent, IsReversal}
+use Rattle.auth_message.specs.Accepted.{AreDigitBytes, IsRequest, IsPresent, IsReversal}
 use Rattle.auth_message.specs.Message.{message_of}
 use Rattle.auth_message.specs.Reply.{ReplyData, reply_of, names_script}
 use Rattle.auth_message.specs.Spelling.{spelled, request_bytes, present_bytes, reversal_bytes, reply_bytes}
@@ -22,7 +22,7 @@ IsAccepted (Reverse f) = IsReversal f
 -- the currency is a code of three digits, and the transaction type two digits
 pub record IsCoded (t5f2a t9c : List ℕ) : Type 0 where
   pub currency : IsTrue (is_code t5f2a)
-  pub transaction_type : AreDigits t9c
+  pub transaction_type : AreDigitBytes t9c
 
 abbrev pub HasCodes : Incoming → Type 0
 HasCodes (Request f) = IsCoded f.paid.t5f2a f.paid.t9c

@@ -1,5 +1,5 @@
 ghost use Rattle.std.specs.Prelude.{◌≡◌, MatchResult, IfOk, length, ◌≤◌, true};
-ghost use Rattle.auth_message.specs.Accepted.{AreDigits};
+ghost use Rattle.auth_message.specs.Accepted.{AreDigitBytes};
 ghost use Rattle.auth_message.specs.Field.{are_digits as all_digits, fixed_value as value_of_fixed, some_value as value_of_some, pan_or_wrong};
 ghost use Rattle.emv_dict.specs.Pan.{pan_of};
 ghost use Rattle.std.specs.Prelude.{Ok, Err};
@@ -23,7 +23,7 @@ pub fn fixed_value<const N: usize>(
     value: &[u8],
 ) -> Result<[u8; N], MessageFault>
     ensures value { result ≡ value_of_fixed N numeric tag value.now }
-    ensures digits { IfOk result (λ bytes. numeric ≡ true → AreDigits bytes) }
+    ensures digits { IfOk result (λ bytes. numeric ≡ true → AreDigitBytes bytes) }
 {
     if value.len() != N {
         return Err(MessageFault::Value(Tag(tag)));

@@ -2,9 +2,9 @@ ghost use Rattle.std.specs.Prelude.{◌≡◌, ◌≤◌, ◌==◌, ◌||◌, No
 ghost use Rattle.ber_tlv.specs.Item.{item_at};
 ghost use Rattle.ber_tlv.specs.Left.{items_behind, fault_of};
 ghost use Rattle.ber_tlv.specs.Seen.{then_rest, seen};
-ghost use Rattle.auth_message.specs.Accepted.{AreDigits};
-ghost use Rattle.auth_message.specs.Fields.{given, behind, wanted as wanted_at, fixed_at, some_at, pan_at, fixed_if_there, ended};
-ghost use Rattle.auth_message.specs.Reply.{auth_at, scripts_at, templates, behind_templates};
+ghost use Rattle.auth_message.specs.Accepted.{AreDigitBytes};
+ghost use Rattle.auth_message.specs.Fields.{field_given, behind_field, required_field as wanted_at, fixed_at, some_at, pan_at, fixed_if_there, no_item_left};
+ghost use Rattle.auth_message.specs.Reply.{auth_at, scripts_in_items, leading_templates, behind_templates};
 ghost use Rattle.auth_message.specs.Script.{next_script, behind_script, end_of_few};
 
 use crate::fault::MessageFault;
@@ -66,8 +66,8 @@ impl<'a> Fields<'a> {
 
     /// The value of the next item where it has this tag, which is then taken.
     pub fn take(&mut self, tag: u32) -> Option<&'a [u8]>
-        ensures value { option_map (λ v. v.now) result ≡ given tag self.old.left }
-        ensures rest { self.new.left ≡ behind tag self.old.left }
+        ensures value { option_map (λ v. v.now) result ≡ field_given tag self.old.left }
+        ensures rest { self.new.left ≡ behind_field tag self.old.left }
         ensures bytes { self.new.bytes ≡ self.old.bytes }
     {
         let ahead = self.ahead;
@@ -81,7 +81,7 @@ impl<'a> Fields<'a> {
     }
 
     /// The value of a field that has to be there.
-    #[tactic(auto, unfolding(crate::specs::Fields::wanted))]
+    #[tactic(auto, unfolding(crate::specs::Fields::required_field))]
     fn wanted(&mut self, tag: u32) -> Result<&'a [u8], MessageFault>
         ensures value { MatchResult result (λ v. wanted_at tag self.old.left ≡ Ok (v.now, self.new.left)) (λ fault. wanted_at tag self.old.left ≡ Err fault) }
         ensures bytes { self.new.bytes ≡ self.old.bytes }
@@ -100,7 +100,7 @@ impl<'a> Fields<'a> {
         numeric: bool,
     ) -> Result<[u8; N], MessageFault>
         ensures value { MatchResult result (λ v. fixed_at N numeric tag self.old.left ≡ Ok (v, self.new.left)) (λ fault. fixed_at N numeric tag self.old.left ≡ Err fault) }
-        ensures digits { IfOk result (λ v. numeric ≡ true → AreDigits v) }
+        ensures digits { IfOk result (λ v. numeric ≡ true → AreDigitBytes v) }
         ensures bytes { self.new.bytes ≡ self.old.bytes }
     {
         let value = self.wanted(tag)?;
@@ -163,7 +163,7 @@ impl<'a> Fields<'a> {
     /// The bytes of the scripts that come next, from the first one's start to the last one's end: at most
     /// 8 scripts of at most 1,024 bytes together.
     pub fn scripts(&mut self) -> Result<&'a [u8], MessageFault>
-        ensures value { MatchResult result (λ v. scripts_at self.old.bytes self.old.left ≡ Ok (v.now, self.new.left)) (λ fault. scripts_at self.old.bytes self.old.left ≡ Err fault) }
+        ensures value { MatchResult result (λ v. scripts_in_items self.old.bytes self.old.left ≡ Ok (v.now, self.new.left)) (λ fault. scripts_in_items self.old.bytes self.old.left ≡ Err fault) }
         ensures short { IfOk result (λ v. length v.now ≤ 1024) }
     {
         let too_many = MessageFault::Value(Tag(0x71));
@@ -184,7 +184,7 @@ impl<'a> Fields<'a> {
     /// there are more than `most`.
     fn scripts_end(&mut self, end: usize, most: usize) -> Option<usize>
         requires { end ≤ length self.old.bytes }
-        ensures value { result ≡ end_of_few most self.old.bytes end (templates self.old.left) }
+        ensures value { result ≡ end_of_few most self.old.bytes end (leading_templates self.old.left) }
         ensures rest { IfSome result (λ _. self.new.left ≡ behind_templates self.old.left) }
         ensures within { IfSome result (λ place. place ≤ length self.old.bytes) }
         ensures bytes { self.new.bytes ≡ self.old.bytes }
@@ -221,7 +221,7 @@ impl<'a> Fields<'a> {
 
     /// That no field is left.
     pub fn end(&self) -> Result<(), MessageFault>
-        ensures { result ≡ ended self.now.left }
+        ensures { result ≡ no_item_left self.now.left }
     {
         match self.ahead {
             Some(item) => Err(MessageFault::Coding(item.start)),

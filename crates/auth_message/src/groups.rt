@@ -1,5 +1,5 @@
 ghost use Rattle.std.specs.Prelude.{◌≡◌, MatchResult, IfOk, Ok, Err};
-ghost use Rattle.auth_message.specs.Accepted.{AreDigits};
+ghost use Rattle.auth_message.specs.Accepted.{AreDigitBytes};
 ghost use Rattle.auth_message.specs.Groups.{named_at, paid_at};
 
 use crate::fault::MessageFault;
@@ -45,7 +45,7 @@ pub fn read_named(fields: &mut Fields) -> Result<Named, MessageFault>
 #[tactic(auto, unfolding(crate::specs::Groups::paid_at))]
 pub fn read_paid(fields: &mut Fields) -> Result<Paid, MessageFault>
     ensures value { MatchResult result (λ paid. paid_at fields.old.left ≡ Ok (paid, fields.new.left)) (λ fault. paid_at fields.old.left ≡ Err fault) }
-    ensures digits { IfOk result (λ paid. AreDigits paid.t9f02) }
+    ensures digits { IfOk result (λ paid. AreDigitBytes paid.t9f02) }
 {
     let t9f02 = fields.fixed(0x9F02, true)?;
     let t9f03 = fields.fixed(0x9F03, true)?;

@@ -1,5 +1,5 @@
 ghost use Rattle.std.specs.Prelude.{◌≡◌, MatchResult, IfOk, Ok, Err};
-ghost use Rattle.auth_message.specs.Accepted.{AreDigits};
+ghost use Rattle.auth_message.specs.Accepted.{AreDigitBytes};
 ghost use Rattle.auth_message.specs.Messages.{present_at};
 
 use crate::fault::MessageFault;
@@ -34,7 +34,7 @@ impl<'a> Model for PresentFields<'a> {
 #[tactic(auto, unfolding(crate::specs::Messages::present_at))]
 pub fn read_present<'a>(fields: &mut Fields<'a>) -> Result<PresentFields<'a>, MessageFault>
     ensures value { MatchResult result (λ found. present_at fields.old.left ≡ Ok found) (λ fault. present_at fields.old.left ≡ Err fault) }
-    ensures digits { IfOk result (λ found. AreDigits found.paid.t9f02) }
+    ensures digits { IfOk result (λ found. AreDigitBytes found.paid.t9f02) }
 {
     let named = read_named(fields)?;
     let paid = read_paid(fields)?;

@@ -1,5 +1,5 @@
 ghost use Rattle.std.specs.Prelude.{◌≡◌, MatchResult, IfOk, Ok, Err};
-ghost use Rattle.auth_message.specs.Accepted.{AreDigits};
+ghost use Rattle.auth_message.specs.Accepted.{AreDigitBytes};
 ghost use Rattle.auth_message.specs.Messages.{request_at};
 
 use crate::fault::MessageFault;
@@ -35,7 +35,7 @@ impl<'a> Model for RequestFields<'a> {
 #[tactic(auto, unfolding(crate::specs::Messages::request_at))]
 pub fn read_request<'a>(fields: &mut Fields<'a>) -> Result<RequestFields<'a>, MessageFault>
     ensures value { MatchResult result (λ found. request_at fields.old.left ≡ Ok found) (λ fault. request_at fields.old.left ≡ Err fault) }
-    ensures digits { IfOk result (λ found. AreDigits found.paid.t9f02) }
+    ensures digits { IfOk result (λ found. AreDigitBytes found.paid.t9f02) }
 {
     let named = read_named(fields)?;
     let t5f24 = fields.fixed(0x5F24, true)?;

@@ -1,5 +1,5 @@
 ghost use Rattle.std.specs.Prelude.{◌≡◌, MatchResult, IfOk, Ok, Err};
-ghost use Rattle.auth_message.specs.Accepted.{AreDigits};
+ghost use Rattle.auth_message.specs.Accepted.{AreDigitBytes};
 ghost use Rattle.auth_message.specs.Messages.{reversal_at};
 
 use crate::fault::MessageFault;
@@ -23,7 +23,7 @@ pub struct ReversalFields {
 #[tactic(auto, unfolding(crate::specs::Messages::reversal_at))]
 pub fn read_reversal(fields: &mut Fields) -> Result<ReversalFields, MessageFault>
     ensures value { MatchResult result (λ found. reversal_at fields.old.left ≡ Ok found) (λ fault. reversal_at fields.old.left ≡ Err fault) }
-    ensures digits { IfOk result (λ found. AreDigits found.t9f02) }
+    ensures digits { IfOk result (λ found. AreDigitBytes found.t9f02) }
 {
     let Named { t9f1c, pan, t5f34 } = read_named(fields)?;
     let t9f36 = fields.fixed(0x9F36, false)?;

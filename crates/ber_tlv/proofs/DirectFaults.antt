@@ -2,11 +2,11 @@
 use Rattle.std.proofs.Common.{◌≡◌, ℕ, zero, suc, Bool, true, false, ◌+◌, ◌-◌, ◌<◌, ◌==◌, if◌then◌else◌, List, length, Option, Some, None, option_map, Result, Ok, Err, slice_get, refl, arith, ap, sym, ◌∙◌, eq-eqb, subst, [], ◌∷◌, IsNone, ◌↔◌}
 use Rattle.std.proofs.lemmas.Option.{slice_get_past}
 use Rattle.std.specs.Option.{option_or}
-use Rattle.ber_tlv.specs.Direct.{fault_inside, fault_at_object, fault_by_byte, template_fault_from, template_fault_behind, template_fault, AreListsInside, IsWhole}
+use Rattle.ber_tlv.specs.Direct.{fault_inside, fault_at_object, fault_by_byte, template_fault_from, template_fault_behind, template_fault, AreListsInside, IsWholeList}
 use Rattle.ber_tlv.specs.Item.{ItemData, item_at}
 use Rattle.ber_tlv.specs.Left.{items_of, fault_of}
-use Rattle.ber_tlv.specs.Place.{moved}
-use Rattle.ber_tlv.specs.Items.{Zeros, Begins, NextItem, NextFault, Items, FaultBehind}
+use Rattle.ber_tlv.specs.FaultPlace.{moved_fault}
+use Rattle.ber_tlv.specs.Items.{Zeros, HasObjectAt, NextItem, NextFault, Items, FaultBehind}
 use Rattle.ber_tlv.specs.declared.item.TlvFault.{TlvFault}
 use Rattle.ber_tlv.proofs.ItemBounds.{item_at-lies}
 use Rattle.ber_tlv.proofs.Reading.{reads_list, reads_fault}
@@ -50,7 +50,7 @@ many_zeros (suc count) tag bytes place start e zeros =
 behind_zeros : (tag : ℕ) (bytes : List ℕ) (place start : ℕ) → Zeros bytes place start → template_fault_behind tag bytes place ≡ template_fault_behind tag bytes start
 behind_zeros tag bytes place start zeros = many_zeros (start - place) tag bytes place start (omega arith) zeros
 
-at_begin : (tag : ℕ) (bytes : List ℕ) (start : ℕ) → Begins bytes start
+at_begin : (tag : ℕ) (bytes : List ℕ) (start : ℕ) → HasObjectAt bytes start
     → template_fault_behind tag bytes start ≡ fault_at_object tag (item_at bytes start) (template_fault_behind tag bytes)
 unfolding template_fault_behind template_fault_from
 at_begin tag bytes start begins =
@@ -75,12 +75,12 @@ fault-fault tag bytes place fault step =
 
 -- the fault inside an object of the tag
 pub fault_found : (tag : ℕ) (bytes : List ℕ) (place : ℕ) (item : ItemData) (next : ℕ) (fault : TlvFault) → NextItem bytes place item next
-    → (item.tag == tag) ≡ true → fault_of (items_of item.value) ≡ Some fault → template_fault_behind tag bytes place ≡ Some (moved (next - length item.value) fault)
+    → (item.tag == tag) ≡ true → fault_of (items_of item.value) ≡ Some fault → template_fault_behind tag bytes place ≡ Some (moved_fault (next - length item.value) fault)
 fault_found tag bytes place item next fault step same found =
     fault-item tag bytes place item next step ∙ rw (same, found) refl
 
 no_fault_inside : {behind : Option TlvFault} (test : Bool) (next : ℕ) (item : ItemData) → fault_of (items_of item.value) ≡ None
-    → option_or (if test then option_map (moved (next - length item.value)) (fault_of (items_of item.value)) else None) behind ≡ behind
+    → option_or (if test then option_map (moved_fault (next - length item.value)) (fault_of (items_of item.value)) else None) behind ≡ behind
 no_fault_inside true next item none = rw none refl
 no_fault_inside false next item none = refl
 
@@ -95,7 +95,7 @@ pub fault_other : (tag : ℕ) (bytes : List ℕ) (place : ℕ) (item : ItemData)
 fault_other tag bytes place item next step other =
     fault-item tag bytes place item next step ∙ rw other refl
 
-if_inside_found : (found : Option TlvFault) (front : ℕ) {behind : Option TlvFault} → option_or (option_map (moved front) found) behind ≡ None → (true ≡ true → found ≡ None) × (behind ≡ None)
+if_inside_found : (found : Option TlvFault) (front : ℕ) {behind : Option TlvFault} → option_or (option_map (moved_fault front) found) behind ≡ None → (true ≡ true → found ≡ None) × (behind ≡ None)
 if_inside_found None front e = (λ t. refl, e)
 if_inside_found (Some fault) front e = cc
 
@@ -103,7 +103,7 @@ is_none-none : (found : Option TlvFault) → IsNone found → found ≡ None
 is_none-none None none = refl
 is_none-none (Some fault) none = cc
 
-if_inside : (test : Bool) (item : ItemData) (next : ℕ) {behind : Option TlvFault} → option_or (if test then option_map (moved (next - length item.value)) (fault_of (items_of item.value)) else None) behind ≡ None
+if_inside : (test : Bool) (item : ItemData) (next : ℕ) {behind : Option TlvFault} → option_or (if test then option_map (moved_fault (next - length item.value)) (fault_of (items_of item.value)) else None) behind ≡ None
     → (test ≡ true → fault_of (items_of item.value) ≡ None) × (behind ≡ None)
 if_inside true item next e = if_inside_found (fault_of (items_of item.value)) (next - length item.value) e
 if_inside false item next e = (λ t. cc, e)
@@ -132,7 +132,7 @@ fault-some tag bytes place [] fault broken e = let found = fault-fault tag bytes
 fault-some tag bytes place (item ∷ items) fault (next, step, rest) e =
     fault-some tag bytes next items fault rest (if_inside (item.tag == tag) item next (sym (fault-item tag bytes place item next step) ∙ e)).1
 
-whole_of_reading : (tag : ℕ) (bytes : List ℕ) (reading : Result (List ItemData) TlvFault) → items_of bytes ≡ reading → template_fault tag bytes ≡ None → IsWhole tag bytes
+whole_of_reading : (tag : ℕ) (bytes : List ℕ) (reading : Result (List ItemData) TlvFault) → items_of bytes ≡ reading → template_fault tag bytes ≡ None → IsWholeList tag bytes
 whole_of_reading tag bytes (Ok items) is_list e =
     record { items = items; listed = is_list; inside = none-whole tag bytes 0 items ((reads_list bytes items).0 is_list) e }
 whole_of_reading tag bytes (Err fault) is_fault e =
@@ -140,13 +140,13 @@ whole_of_reading tag bytes (Err fault) is_fault e =
     absurd (fault-some tag bytes 0 behind.0 fault behind.1 e)
 
 -- no fault exactly where the bytes are whole
-no_fault-whole : (tag : ℕ) (bytes : List ℕ) → IsNone (template_fault tag bytes) ↔ IsWhole tag bytes
+no_fault-whole : (tag : ℕ) (bytes : List ℕ) → IsNone (template_fault tag bytes) ↔ IsWholeList tag bytes
 no_fault-whole tag bytes = (
   λ none. whole_of_reading tag bytes (items_of bytes) refl (is_none-none (template_fault tag bytes) none),
   λ whole. rw (whole-none tag bytes 0 whole.items ((reads_list bytes whole.items).0 whole.listed) whole.inside) refl,
 )
 
-pub whole_where_none : (result : Option TlvFault) (tag : ℕ) (bytes : List ℕ) → result ≡ template_fault tag bytes → IsNone result ↔ IsWhole tag bytes
+pub whole_where_none : (result : Option TlvFault) (tag : ℕ) (bytes : List ℕ) → result ≡ template_fault tag bytes → IsNone result ↔ IsWholeList tag bytes
 whole_where_none result tag bytes e =
-    let P : Option TlvFault → Type 0 = λ r. IsNone r ↔ IsWhole tag bytes in
+    let P : Option TlvFault → Type 0 = λ r. IsNone r ↔ IsWholeList tag bytes in
     subst P (sym e) (no_fault-whole tag bytes)

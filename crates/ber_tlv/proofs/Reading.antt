@@ -4,7 +4,7 @@ use Rattle.std.proofs.Common.{◌≡◌, ℕ, zero, suc, ◌+◌, ◌-◌, ◌<�
 use Rattle.std.proofs.Math.Nat.{eq-or-lt_of_le}
 use Rattle.std.proofs.lemmas.Option.{slice_get_past, slice_get_within, slice_get_cases}
 use Rattle.ber_tlv.specs.Item.{ItemData, ◌>>=◌, item_at}
-use Rattle.ber_tlv.specs.Items.{Zeros, Begins, NextItem, NextFault, Items, FaultBehind}
+use Rattle.ber_tlv.specs.Items.{Zeros, HasObjectAt, NextItem, NextFault, Items, FaultBehind}
 use Rattle.ber_tlv.specs.Left.{then_left, by_byte, items_from, items_behind, items_of}
 use Rattle.ber_tlv.specs.declared.item.TlvFault.{TlvFault}
 use Rattle.ber_tlv.proofs.ItemBounds.{item_at-lies}
@@ -48,7 +48,7 @@ items_behind-zeros (suc count) bytes place start e zeros =
 zeros-left : (bytes : List ℕ) (place start : ℕ) → Zeros bytes place start → items_behind bytes place ≡ items_behind bytes start
 zeros-left bytes place start zeros = items_behind-zeros (start - place) bytes place start (omega arith) zeros
 
-begins-left : (bytes : List ℕ) (start : ℕ) → Begins bytes start → items_behind bytes start ≡ (item_at bytes start >>= (λ found. then_left found.0 (items_behind bytes found.1)))
+begins-left : (bytes : List ℕ) (start : ℕ) → HasObjectAt bytes start → items_behind bytes start ≡ (item_at bytes start >>= (λ found. then_left found.0 (items_behind bytes found.1)))
 unfolding items_behind items_from
 begins-left bytes start begins =
     rw begins.there (by_byte-begins begins.byte _ _ begins.not_zero
@@ -118,7 +118,7 @@ Reads-item : (bytes : List ℕ) (place : ℕ) (item : ItemData) (next : ℕ) (re
 Reads-item bytes place item next (Ok items) step reads = (next, step, reads)
 Reads-item bytes place item next (Err fault) step (items, reads) = (item ∷ items, (next, step, reads))
 
-Reads-start : (bytes : List ℕ) (place : ℕ) (rest : ℕ → Result (List ItemData) TlvFault) (found : Result (ItemData × ℕ) TlvFault) → Begins bytes place → item_at bytes place ≡ found → ((next : ℕ) → place < next → next ≤ length bytes → Reads bytes next (rest next)) → Reads bytes place (found >>= (λ found. then_left found.0 (rest found.1)))
+Reads-start : (bytes : List ℕ) (place : ℕ) (rest : ℕ → Result (List ItemData) TlvFault) (found : Result (ItemData × ℕ) TlvFault) → HasObjectAt bytes place → item_at bytes place ≡ found → ((next : ℕ) → place < next → next ≤ length bytes → Reads bytes next (rest next)) → Reads bytes place (found >>= (λ found. then_left found.0 (rest found.1)))
 Reads-start bytes place rest (Ok (item, next)) begins stands all =
     let lies = item_at-lies bytes place item next stands in
     let within = slice_get_within bytes place begins.byte begins.there in
@@ -141,7 +141,7 @@ ends_at bytes place within e =
     ]
 
 Reads-byte : (bytes : List ℕ) (place : ℕ) (byte : Option ℕ) (padding object : Result (List ItemData) TlvFault) → place ≤ length bytes → slice_get bytes place ≡ byte
-    → (slice_get bytes place ≡ Some 0 → Reads bytes (place + 1) padding) → (Begins bytes place → Reads bytes place object) → Reads bytes place (by_byte byte padding object)
+    → (slice_get bytes place ≡ Some 0 → Reads bytes (place + 1) padding) → (HasObjectAt bytes place → Reads bytes place object) → Reads bytes place (by_byte byte padding object)
 Reads-byte bytes place None padding object within e by_padding by_object =
     ends_at bytes place within e
 Reads-byte bytes place (Some zero) padding object within e by_padding by_object = Reads-padding bytes place padding e (by_padding e)

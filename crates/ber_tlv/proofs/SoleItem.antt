@@ -3,7 +3,7 @@ use Rattle.std.proofs.Common.{◌≡◌, ℕ, Bool, true, false, IsTrue, ◌/◌
 use Rattle.std.proofs.lemmas.Bool.Decides.{nat_tests}
 use Rattle.ber_tlv.specs.Direct.{sole_value}
 use Rattle.ber_tlv.specs.Item.{ItemData, item_at}
-use Rattle.ber_tlv.specs.Items.{Begins, NextItem}
+use Rattle.ber_tlv.specs.Items.{HasObjectAt, NextItem}
 use Rattle.ber_tlv.specs.Left.{items_of}
 use Rattle.ber_tlv.specs.Tag.{is_readable}
 use Rattle.ber_tlv.specs.Written.{tag_bytes, written}
@@ -33,7 +33,7 @@ begins_tag tag false false p q readable =
     let small : tag < 16777216 = grind (arith, nat_tests, first.0) in
     record { first = tag / 65536 % 256; rest = tag / 256 % 256 ∷ tag % 256 ∷ []; splits = rw (p, q) refl; positive = omega arith }
 
-written_begins : (tag : ℕ) (value : List ℕ) → IsTrue (is_readable tag) → Begins (written tag value) 0
+written_begins : (tag : ℕ) (value : List ℕ) → IsTrue (is_readable tag) → HasObjectAt (written tag value) 0
 unfolding written
 written_begins tag value readable =
     let tag_begins = begins_tag tag (nat_lt tag 256) (nat_lt tag 65536) refl refl readable in

@@ -6,7 +6,7 @@ use Rattle.std.proofs.lemmas.Option.{get_or_from_slice_get}
 use Rattle.std.specs.List.{slice_range}
 use Rattle.std.proofs.lemmas.List.{length-take}
 use Rattle.ber_tlv.specs.Item.{AreBytes, ItemData, ◌>>=◌, or_cut, byte_at, tag_at, second_tag_byte, third_tag_byte, length_at, long_length, one_byte_length, two_byte_length, value_at, item_at}
-use Rattle.ber_tlv.specs.Spelled.{Spelled, IsCutTag, HasLongTag, StopsTag, number_of, LongLength, HasLength}
+use Rattle.ber_tlv.specs.Spelled.{Spelled, IsCutTag, HasLongTag, StopsTag, number_of_bytes, LongLength, HasLength}
 use Rattle.ber_tlv.specs.declared.item.TlvFault.TheVariants.{Truncated, LongTag}
 use Rattle.ber_tlv.specs.Written.{tag_bytes, length_bytes, written}
 use Rattle.ber_tlv.specs.declared.item.TlvFault.{TlvFault}
@@ -199,7 +199,7 @@ tag_at-stops bytes start fault all e =
     ]
 
 long_by : (bytes : List ℕ) (place count next : ℕ) (following : List ℕ) (end : ℕ) → slice_get bytes place ≡ Some (128 + length following) → 1 ≤ length following → length following ≤ 2
-    → place + 1 + length following ≡ end → end ≡ next → drop (place + 1) bytes ≡ following ++ drop end bytes → number_of following ≡ count → LongLength bytes place count next
+    → place + 1 + length following ≡ end → end ≡ next → drop (place + 1) bytes ≡ following ++ drop end bytes → number_of_bytes following ≡ count → LongLength bytes place count next
 long_by bytes place count next following end first some few passed same_end stand number = record {
   following = following;
   first = first;

@@ -3,7 +3,7 @@ use Rattle.std.proofs.Common.{◌≡◌, ℕ, zero, suc, ◌+◌, ◌-◌, ◌<�
 use Rattle.std.proofs.lemmas.List.{length-take-le}
 use Rattle.std.proofs.lemmas.Option.{slice_get_past, slice_get_within}
 use Rattle.ber_tlv.specs.Item.{ItemData, item_at}
-use Rattle.ber_tlv.specs.Items.{Zeros, Begins, NextItem, NextFault}
+use Rattle.ber_tlv.specs.Items.{Zeros, HasObjectAt, NextItem, NextFault}
 use Rattle.ber_tlv.specs.Tag.{names_template}
 use Rattle.ber_tlv.specs.Walked.{Walked, Done, Broken, Met, then_walked, walk_by_byte, met_object, walk_from, walk_behind, walk_of, walk_inside, walk_fault, Forest, Bare, Grown, Spells, walk_of_forest}
 use Rattle.ber_tlv.specs.declared.item.TlvFault.{TlvFault}
@@ -58,7 +58,7 @@ walk_behind-zeros (suc count) bytes place start e zeros =
 zeros-walk : (bytes : List ℕ) (place start : ℕ) → Zeros bytes place start → walk_behind bytes place ≡ walk_behind bytes start
 zeros-walk bytes place start zeros = walk_behind-zeros (start - place) bytes place start (omega arith) zeros
 
-begins-walk : (bytes : List ℕ) (start : ℕ) → Begins bytes start → walk_behind bytes start
+begins-walk : (bytes : List ℕ) (start : ℕ) → HasObjectAt bytes start → walk_behind bytes start
     ≡ met_object (item_at bytes start) (λ found. walk_behind (take found.1 bytes) (found.1 - length found.0.value)) (λ found. walk_behind bytes found.1)
 unfolding walk_behind walk_from
 begins-walk bytes start begins =
@@ -123,7 +123,7 @@ Spelled-inside false bytes place walk spelled e = (Bare, refl)
 some_none : (fault : TlvFault) → ◌≡◌ {A = Option TlvFault} (Some fault) None → ⊥
 some_none fault e = cc
 
-Spelled-item : (bytes : List ℕ) (place : ℕ) (inside behind : ItemData × ℕ → Walked) (found : Result (ItemData × ℕ) TlvFault) → Begins bytes place → item_at bytes place ≡ found
+Spelled-item : (bytes : List ℕ) (place : ℕ) (inside behind : ItemData × ℕ → Walked) (found : Result (ItemData × ℕ) TlvFault) → HasObjectAt bytes place → item_at bytes place ≡ found
     → ((item : ItemData) (next : ℕ) → Lies bytes place item next → walk_fault (inside (item, next)) ≡ None → Spelled (take next bytes) (next - length item.value))
     → ((item : ItemData) (next : ℕ) → Lies bytes place item next → walk_fault (behind (item, next)) ≡ None → Spelled bytes next)
     → walk_fault (met_object found inside behind) ≡ None → Spelled bytes place
@@ -139,7 +139,7 @@ Spelled-item bytes place inside behind (Ok (item, next)) begins stands spelled_i
 Spelled-item bytes place inside behind (Err fault) begins broken spelled_inside spelled_behind e = absurd (some_none fault e)
 
 Spelled-byte : (bytes : List ℕ) (place : ℕ) (byte : Option ℕ) (padding object : Walked) → place ≤ length bytes → slice_get bytes place ≡ byte
-    → (slice_get bytes place ≡ Some 0 → walk_fault padding ≡ None → Spelled bytes (place + 1)) → (Begins bytes place → walk_fault object ≡ None → Spelled bytes place)
+    → (slice_get bytes place ≡ Some 0 → walk_fault padding ≡ None → Spelled bytes (place + 1)) → (HasObjectAt bytes place → walk_fault object ≡ None → Spelled bytes place)
     → walk_fault (walk_by_byte byte padding object) ≡ None → Spelled bytes place
 Spelled-byte bytes place None padding object within e by_padding by_object none = (Bare, ends_at bytes place within e)
 Spelled-byte bytes place (Some zero) padding object within e by_padding by_object none = Spelled-padding bytes place e (by_padding e none)

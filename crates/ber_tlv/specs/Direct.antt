@@ -5,7 +5,7 @@ use Rattle.std.specs.List.{AllByRecursion}
 use Rattle.std.specs.Option.{option_or}
 use Rattle.ber_tlv.specs.Item.{ItemData, item_at}
 use Rattle.ber_tlv.specs.Left.{items_of, fault_of}
-use Rattle.ber_tlv.specs.Place.{moved}
+use Rattle.ber_tlv.specs.FaultPlace.{moved_fault}
 use Rattle.ber_tlv.specs.declared.item.TlvFault.{TlvFault}
 
 -- the value of the first object of a tag
@@ -37,7 +37,7 @@ sole_value tag (Err fault) = None
 -- the fault of the value of an object of this tag, which ends before `next`; none in other objects
 abbrev pub fault_inside : ℕ → ItemData → ℕ → Option TlvFault
 fault_inside tag item next =
-    if item.tag == tag then option_map (moved (next - length item.value)) (fault_of (items_of item.value)) else None
+    if item.tag == tag then option_map (moved_fault (next - length item.value)) (fault_of (items_of item.value)) else None
 
 -- a fault, or the fault in an object, or else the one behind it
 abbrev pub fault_at_object : ℕ → Result (ItemData × ℕ) TlvFault → (ℕ → Option TlvFault) → Option TlvFault
@@ -70,7 +70,7 @@ abbrev pub AreListsInside : ℕ → List ItemData → Type 0
 AreListsInside tag items = AllByRecursion (λ item. item.tag ≡ tag → fault_of (items_of item.value) ≡ None) items
 
 -- the bytes are a list of objects, and so is the value of each one of this tag
-pub record IsWhole (tag : ℕ) (bytes : List ℕ) : Type 0 where
+pub record IsWholeList (tag : ℕ) (bytes : List ℕ) : Type 0 where
   pub items : List ItemData
   pub listed : items_of bytes ≡ Ok items
   pub inside : AreListsInside tag items

@@ -11,7 +11,7 @@ pub record Zeros (bytes : List ℕ) (from to : ℕ) : Type 0 where
   pub zero : (k : ℕ) → from ≤ k → k < to → slice_get bytes k ≡ Some 0
 
 -- a byte other than 00 stands at this place
-pub record Begins (bytes : List ℕ) (place : ℕ) : Type 0 where
+pub record HasObjectAt (bytes : List ℕ) (place : ℕ) : Type 0 where
   pub byte : ℕ
   pub there : slice_get bytes place ≡ Some byte
   pub not_zero : 0 < byte
@@ -20,14 +20,14 @@ pub record Begins (bytes : List ℕ) (place : ℕ) : Type 0 where
 pub record NextItem (bytes : List ℕ) (place : ℕ) (item : ItemData) (next : ℕ) : Type 0 where
   pub start : ℕ
   pub zeros : Zeros bytes place start
-  pub begins : Begins bytes start
+  pub begins : HasObjectAt bytes start
   pub stands : item_at bytes start ≡ Ok (item, next)
 
 -- from this place on, bytes 00 aside, no object stands but this fault
 pub record NextFault (bytes : List ℕ) (place : ℕ) (fault : TlvFault) : Type 0 where
   pub start : ℕ
   pub zeros : Zeros bytes place start
-  pub begins : Begins bytes start
+  pub begins : HasObjectAt bytes start
   pub broken : item_at bytes start ≡ Err fault
 
 -- the bytes from this place to the end are these objects

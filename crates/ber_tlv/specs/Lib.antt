@@ -2,7 +2,7 @@ pub mod Direct
 pub mod Item
 pub mod Items
 pub mod Left
-pub mod Place
+pub mod FaultPlace
 pub mod Seen
 pub mod Spelled
 pub mod Tag

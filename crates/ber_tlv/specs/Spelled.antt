@@ -34,9 +34,9 @@ StopsTag (BadLength place) start bytes = ⊥
 StopsTag (LongTag place) start bytes = (place ≡ start) × HasLongTag bytes
 
 -- the number that bytes write, the highest first
-abbrev pub number_of : List ℕ → ℕ
-number_of [] = 0
-number_of (byte ∷ bytes) = byte * 256 ^ length bytes + number_of bytes
+abbrev pub number_of_bytes : List ℕ → ℕ
+number_of_bytes [] = 0
+number_of_bytes (byte ∷ bytes) = byte * 256 ^ length bytes + number_of_bytes bytes
 
 -- one byte with bit 8 off is the length (ISO/IEC 8825-1 section 8.1.3.4)
 pub record ShortLength (bytes : List ℕ) (place count next : ℕ) : Type 0 where
@@ -53,7 +53,7 @@ pub record LongLength (bytes : List ℕ) (place count next : ℕ) : Type 0 where
   pub few : length following ≤ 2
   pub end : place + 1 + length following ≡ next
   pub stand : drop (place + 1) bytes ≡ following ++ drop next bytes
-  pub number : number_of following ≡ count
+  pub number : number_of_bytes following ≡ count
 
 -- the length that stands between two places; proofs open it only where they need it
 unfoldable pub HasLength : List ℕ → ℕ → ℕ → ℕ → Type 0

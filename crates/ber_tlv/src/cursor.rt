@@ -1,10 +1,10 @@
 ghost use Rattle.std.specs.Prelude.{◌≡◌, ℕ, ◌+◌, ◌-◌, ◌<◌, ◌≤◌, ◌↔◌, List, length, take, Ok, Err, IfOk, IfErr, IfSome, IfNone, OnErr};
-ghost use Rattle.ber_tlv.specs.Items.{Zeros, Begins, NextItem, NextFault, Items, FaultBehind};
+ghost use Rattle.ber_tlv.specs.Items.{Zeros, HasObjectAt, NextItem, NextFault, Items, FaultBehind};
 ghost use Rattle.ber_tlv.specs.Left.{items_behind, items_of, fault_of};
 ghost use Rattle.ber_tlv.specs.Walked.{walk_behind};
 ghost use Rattle.ber_tlv.specs.Seen.{CursorData, seen, then_rest, then_walk};
 ghost use Rattle.ber_tlv.specs.Item.{ItemData};
-ghost use Rattle.ber_tlv.specs.Place.{Within};
+ghost use Rattle.ber_tlv.specs.FaultPlace.{Within};
 ghost use Rattle.ber_tlv.specs.Spelled.{HasLength, BadLengthStands};
 ghost use Rattle.ber_tlv.specs.Tag.{IsReadable};
 ghost use Rattle.ber_tlv.specs.Written.{tag_bytes};
@@ -121,7 +121,7 @@ pub fn first_fault(bytes: &[u8]) -> Option<TlvFault>
 fn skip_zeros(bytes: &[u8], place: usize) -> usize
     requires { place ≤ length bytes.now }
     ensures zeros { Zeros bytes.now place result }
-    ensures begins { result < length bytes.now → Begins bytes.now result }
+    ensures begins { result < length bytes.now → HasObjectAt bytes.now result }
 {
     let mut start = place;
     while start < bytes.len() && bytes[start] == 0 {

@@ -1,10 +1,10 @@
 ghost use Rattle.std.specs.Prelude.{◌≡◌, ◌+◌, ◌-◌, ◌≤◌, ◌<◌, ◌^◌, length, Some, Ok, Err, IfSome, IsNone, IsOk, IsTrue, ℕ, List, ◌↔◌, MatchResult, option_map, slice_get};
-ghost use Rattle.ber_tlv.specs.Direct.{found_value, values_of, sole_value, template_fault, IsWhole};
+ghost use Rattle.ber_tlv.specs.Direct.{found_value, values_of, sole_value, template_fault, IsWholeList};
 ghost use Rattle.ber_tlv.specs.Direct as spec;
 ghost use Rattle.ber_tlv.specs.Left.{items_of, items_behind};
 ghost use Rattle.ber_tlv.specs.Tag.{is_readable};
 ghost use Rattle.ber_tlv.specs.Written.{written};
-ghost use Rattle.ber_tlv.specs.Place.{place_of, moved, Within};
+ghost use Rattle.ber_tlv.specs.FaultPlace.{place_of_fault, moved_fault, Within};
 
 use crate::cursor::{Cursor, first_fault};
 use crate::item::TlvFault;
@@ -86,7 +86,7 @@ pub fn sole_value(bytes: &[u8], tag: Tag) -> Option<&[u8]>
 /// the string, also inside these objects.
 pub fn template_fault(bytes: &[u8], tag: Tag) -> Option<TlvFault>
     ensures exact { result ≡ template_fault tag.0 bytes.now }
-    ensures none { IsNone result ↔ IsWhole tag.0 bytes.now }
+    ensures none { IsNone result ↔ IsWholeList tag.0 bytes.now }
     ensures fault_place { IfSome result (Within bytes.now 0) }
 {
     let mut cursor = Cursor::new(bytes);
@@ -107,8 +107,8 @@ pub fn template_fault(bytes: &[u8], tag: Tag) -> Option<TlvFault>
 
 /// The fault of bytes that stand behind so many others, counted from the first of those.
 fn moved(fault: TlvFault, front: usize) -> TlvFault
-    requires { front + place_of fault < 2 ^ 64 }
-    ensures { result ≡ moved front fault }
+    requires { front + place_of_fault fault < 2 ^ 64 }
+    ensures { result ≡ moved_fault front fault }
 {
     match fault {
         TlvFault::Truncated(place) => TlvFault::Truncated(front + place),

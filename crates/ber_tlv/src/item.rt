@@ -1,8 +1,8 @@
 ghost use Rattle.std.specs.Prelude.{◌≡◌, ◌+◌, ◌-◌, ◌*◌, ◌/◌, ◌%◌, ◌<◌, ◌≤◌, length, Ok, Err, IfOk, IfErr, IsTrue, MatchResult, Some, drop, slice_get};
 ghost use Rattle.ber_tlv.specs.Item as spec;
-ghost use Rattle.ber_tlv.specs.Items.{Begins};
-ghost use Rattle.ber_tlv.specs.Place as place_spec;
-ghost use Rattle.ber_tlv.specs.Place.{Within};
+ghost use Rattle.ber_tlv.specs.Items.{HasObjectAt};
+ghost use Rattle.ber_tlv.specs.FaultPlace as place_spec;
+ghost use Rattle.ber_tlv.specs.FaultPlace.{Within};
 ghost use Rattle.ber_tlv.specs.Seen.{seen};
 ghost use Rattle.ber_tlv.specs.Spelled.{Spelled, StopsTag, HasLength, BadLengthStands};
 ghost use Rattle.ber_tlv.specs.Written.{tag_bytes};
@@ -33,7 +33,7 @@ pub enum TlvFault {
 impl TlvFault {
     /// The place of the fault: its byte's number in the whole string, from 0.
     pub fn place(self) -> usize
-        ensures { result ≡ place_spec.place_of self }
+        ensures { result ≡ place_spec.place_of_fault self }
     {
         match self {
             TlvFault::Truncated(place) => place,
@@ -106,7 +106,7 @@ fn second_tag_byte(bytes: &[u8], start: usize, first: u8) -> Result<(u32, usize)
 fn tag_at(bytes: &[u8], start: usize) -> Result<(u32, usize), TlvFault>
     ensures exact { result ≡ spec.tag_at bytes.now start }
     ensures fault_place { IfErr result (λ fault. start < length bytes.now → Within bytes.now start fault) }
-    ensures readable { IfOk result (λ r. Begins bytes.now start → IsTrue (is_readable r.0)) }
+    ensures readable { IfOk result (λ r. HasObjectAt bytes.now start → IsTrue (is_readable r.0)) }
     ensures bad_length { IfErr result (BadLengthStands bytes.now) }
     ensures within { IfOk result (λ r. (start < r.1) × (r.1 ≤ length bytes.now)) }
 {
@@ -238,7 +238,7 @@ pub(crate) fn item_at<'a>(bytes: &'a [u8], start: usize) -> Result<(Item<'a>, us
         (λ r. spec.item_at bytes.now start ≡ Ok (seen r.0, r.1))
         (λ fault. spec.item_at bytes.now start ≡ Err fault) }
     ensures fault_place { IfErr result (λ fault. start < length bytes.now → Within bytes.now start fault) }
-    ensures readable { IfOk result (λ r. Begins bytes.now start → IsTrue (is_readable r.0.tag.0)) }
+    ensures readable { IfOk result (λ r. HasObjectAt bytes.now start → IsTrue (is_readable r.0.tag.0)) }
     ensures bad_length { IfErr result (BadLengthStands bytes.now) }
     ensures start { IfOk result (λ r. r.0.start ≡ start) }
     ensures length { IfOk result (λ r. HasLength bytes.now (start + length (tag_bytes r.0.tag.0)) (length r.0.value.now) (r.1 - length r.0.value.now)) }

@@ -4,7 +4,7 @@ ghost use Rattle.std.specs.Prelude.{◌≡◌, true};
 use emv_ports::{Gone, Held, MemoryPages, Pages, RoughPages, Tear, TearAt};
 use std::test::Fail;
 
-/// The bytes of a page; of the last three the second half alone is new.
+/// The bytes of a page; of the last four the second half alone is new.
 #[derive(Clone, Copy)]
 enum Bytes {
     Blank,
@@ -12,6 +12,8 @@ enum Bytes {
     HalfNew,
     /// Odd cells give the new byte, even ones the old one.
     OddNew,
+    /// Even cells give the new byte, odd ones the old one.
+    EvenNew,
     /// Cell i gives so many more than i, modulo 256.
     Rough(u8),
 }
@@ -23,6 +25,7 @@ fn cell(bytes: Bytes, i: u8) -> u8 {
         _ if i < 32 => 0xaa,
         Bytes::HalfNew => 0x55,
         Bytes::OddNew => { if i % 2 == 1 { 0x55 } else { 0xaa } }
+        Bytes::EvenNew => { if i % 2 == 0 { 0x55 } else { 0xaa } }
         Bytes::Rough(more) => i.wrapping_add(more),
     }
 }
@@ -78,11 +81,12 @@ const TORN: [Cycle; 2] = [
     ),
 ];
 
-/// At power-up 3 odd cells give the torn write's byte, even ones what they gave last; at power-up 4 even cells
-/// give the torn write's byte too.
-const SETTLED: [Cycle; 2] = [
+/// At power-up 3 odd cells give the torn write's byte, even ones what they gave when they were torn; at power-up 4 it is
+/// the other way round, and so on.
+const SETTLED: [Cycle; 3] = [
     (false, &[(7, Bytes::OddNew)], None, false, &[]),
-    (false, &[(7, Bytes::HalfNew)], None, false, &[]),
+    (false, &[(7, Bytes::EvenNew)], None, false, &[]),
+    (false, &[(7, Bytes::OddNew)], None, false, &[]),
 ];
 
 /// The word is 18 * 256 + 52. Page 7 adds 49 to it, and power-up 3 adds 93: cells 32 to 61 give 226 to 255, and the

@@ -1,12 +1,12 @@
 -- A store's list fits, one step after another.
-use Rattle.std.proofs.Common.{◌≡◌, ◌⊎◌, ℕ, zero, suc, ◌<◌, ◌≤◌, Bool, true, false, ◌==◌, List, [], drop, length, Option, Some, None, sym, subst, arith, inl, inr, length-drop}
+use Rattle.std.proofs.Common.{◌≡◌, ◌⊎◌, ℕ, ◌<◌, ◌≤◌, Bool, true, false, ◌==◌, List, [], drop, length, Option, Some, None, sym, subst, arith, inl, inr, length-drop}
 use Rattle.std.specs.Prelude.{if◌then◌else◌}
 use Rattle.std.proofs.lemmas.Bool.Decides.{nat_tests}
 use Rattle.emv_ports.specs.declared.tear.Tear.{Tear}
-use Rattle.capture_store.specs.Calls.{Call, Adds, Drops, called, found_by, left_by}
+use Rattle.capture_store.specs.Calls.{Call, Adds, Drops, called, list_found, call_left_by}
 use Rattle.capture_store.specs.Fitting.{RowFits, StoreFits}
-use Rattle.capture_store.specs.Spelling.{IsMessage, IsList}
-use Rattle.capture_store.specs.StoreRow.{StoreRow, is_cut, made_call, cut_call, call_by, delivered_by}
+use Rattle.capture_store.specs.Spelling.{IsCaptureMessage, IsList}
+use Rattle.capture_store.specs.StoreRow.{StoreRow, is_next_cut, made_call, cut_call, call_under_plan, delivered_by}
 use Rattle.capture_store.proofs.Entries.{list_more, list_less}
 use Rattle.capture_store.proofs.Sendings.{leaves_one}
 
@@ -14,7 +14,7 @@ none_fits : IsList []
 none_fits = record { few = omega arith; each = λ k d inside. absurd (omega arith) }
 
 -- the list where no call is lost
-here_fits : (list : List (List ℕ)) (lost : Option Call) → lost ≡ None → ((found : Bool) → IsList (found_by list lost found)) → IsList list
+here_fits : (list : List (List ℕ)) (lost : Option Call) → lost ≡ None → ((found : Bool) → IsList (list_found list lost found)) → IsList list
 here_fits list None is fits = fits true
 here_fits list (Some call) is fits = cc is
 
@@ -26,25 +26,25 @@ call_fits : (row : StoreRow) (plan : Option Tear) (call : Call) (cut : Bool) →
     → RowFits (if cut then cut_call plan row call else made_call row call)
 call_fits row plan call true is fits more =
     λ found.
-    one_fits row.list (called row.list call) (found_by (left_by plan row.list call).list (left_by plan row.list call).lost found) fits more
+    one_fits row.list (called row.list call) (list_found (call_left_by plan row.list call).list (call_left_by plan row.list call).lost found) fits more
     (leaves_one plan row.list call found)
 call_fits row plan call false is fits more =
-    subst (λ (lost : Option Call). (found : Bool) → IsList (found_by (called row.list call) lost found)) (sym is) (λ found. more)
+    subst (λ (lost : Option Call). (found : Bool) → IsList (list_found (called row.list call) lost found)) (sym is) (λ found. more)
 
-adds_fit : (row : StoreRow) (plan : Option Tear) (message : List ℕ) → row.lost ≡ None → length row.list < 7 → IsMessage message → RowFits row
-    → RowFits (call_by plan row (Adds message))
+adds_fit : (row : StoreRow) (plan : Option Tear) (message : List ℕ) → row.lost ≡ None → length row.list < 7 → IsCaptureMessage message → RowFits row
+    → RowFits (call_under_plan plan row (Adds message))
 adds_fit row plan message is room short fits =
     let here = here_fits row.list row.lost is fits in
-    call_fits row plan (Adds message) (is_cut plan row) is here (list_more row.list message here room short)
+    call_fits row plan (Adds message) (is_next_cut plan row) is here (list_more row.list message here room short)
 
-drops_fit : (row : StoreRow) (plan : Option Tear) → row.lost ≡ None → RowFits row → RowFits (call_by plan row Drops)
+drops_fit : (row : StoreRow) (plan : Option Tear) → row.lost ≡ None → RowFits row → RowFits (call_under_plan plan row Drops)
 drops_fit row plan is fits =
-    let here = here_fits row.list row.lost is fits in call_fits row plan Drops (is_cut plan row) is here (list_less row.list here)
+    let here = here_fits row.list row.lost is fits in call_fits row plan Drops (is_next_cut plan row) is here (list_less row.list here)
 
 not_full : (count : ℕ) → count ≤ 7 → (count == 7) ≡ false → count < 7
 not_full count few is = grind (arith, nat_tests)
 
-delivery_has_room : (row : StoreRow) (plan : Option Tear) → row.lost ≡ None → is_cut plan row ≡ false → RowFits row → length (delivered_by plan row).list < 7
+delivery_has_room : (row : StoreRow) (plan : Option Tear) → row.lost ≡ None → is_next_cut plan row ≡ false → RowFits row → length (delivered_by plan row).list < 7
 delivery_has_room row plan is spared fits =
     let few = (here_fits row.list row.lost is fits).few in
     let less = length-drop 1 row.list in
@@ -57,6 +57,6 @@ store_fits = record {
   opens = λ row found fits other. fits found;
   adds = adds_fit;
   drops = drops_fit;
-  room = λ row found fits due. not_full (length (found_by row.list row.lost found)) (fits found).few due;
+  room = λ row found fits due. not_full (length (list_found row.list row.lost found)) (fits found).few due;
   delivers = delivery_has_room;
 }

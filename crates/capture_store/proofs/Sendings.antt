@@ -4,9 +4,9 @@ use Rattle.std.specs.Prelude.{if◌then◌else◌}
 use Rattle.emv_ports.specs.declared.tear.Tear.{Tear}
 use Rattle.emv_ports.specs.declared.tear.TearAt.{TearAt}
 use Rattle.emv_ports.specs.declared.tear.TearAt.TheVariants.{Before, Within, Release}
-use Rattle.capture_store.specs.Calls.{Call, Adds, Drops, called, found_by, left_at, left_by}
-use Rattle.capture_store.specs.StoreRow.{StoreRow, is_cut, made_call, cut_call, call_by}
-use Rattle.capture_store.specs.Sending.{Caught, Sends, none, once, again, never, Keeps, RowKeeps, StoreKeeps, LeavesOneOfTwo}
+use Rattle.capture_store.specs.Calls.{Call, Adds, Drops, called, list_found, call_left_at, call_left_by}
+use Rattle.capture_store.specs.StoreRow.{StoreRow, is_next_cut, made_call, cut_call, call_under_plan}
+use Rattle.capture_store.specs.Sending.{Caught, Sends, none, once, again, never, KeepsSending, RowKeeps, StoreKeeps, LeavesOneOfTwo}
 
 -- one more was caught and sent
 with_one : (caught : List Caught) (sent : List (List ℕ)) (c : Caught) → Sends caught sent → Sends (caught ++ c ∷ []) (sent ++ c.message ∷ [])
@@ -70,26 +70,26 @@ repeated _ _ (again c cs rest sends) (x ∷ y ∷ ys) m others same =
 repeated _ _ (never c cs rest lost sends) sent m others same = never c cs (sent ++ m ∷ m ∷ others) lost (repeated cs rest sends sent m others same)
 
 -- what is left where no call is lost
-left_here : (caught : List Caught) (sent list : List (List ℕ)) (lost : Option Call) → lost ≡ None → Keeps caught sent list lost → Sends caught (sent ++ list)
+left_here : (caught : List Caught) (sent list : List (List ℕ)) (lost : Option Call) → lost ≡ None → KeepsSending caught sent list lost → Sends caught (sent ++ list)
 left_here caught sent list None is keeps = keeps true
 left_here caught sent list (Some call) is keeps = cc is
 
 module _ (caught : List Caught) (sent list : List (List ℕ)) (call : Call) (before : Sends caught (sent ++ list))
     (behind : Sends caught (sent ++ called list call)) where
-  found_either : Keeps caught sent list (Some call)
+  found_either : KeepsSending caught sent list (Some call)
   found_either true = behind
   found_either false = before
 
-  by_first : (first : Bool) → Keeps caught sent list (if first then None else Some call)
+  by_first : (first : Bool) → KeepsSending caught sent list (if first then None else Some call)
   by_first true found = before
   by_first false found = found_either found
 
-  keeps_at : (at : TearAt) → Keeps caught sent (left_at at list call).list (left_at at list call).lost
+  keeps_at : (at : TearAt) → KeepsSending caught sent (call_left_at at list call).list (call_left_at at list call).lost
   keeps_at (Before number) found = by_first (number == 1) found
   keeps_at (Within number) found = found_either found
   keeps_at Release found = behind
 
-  keeps_left : (plan : Option Tear) → Keeps caught sent (left_by plan list call).list (left_by plan list call).lost
+  keeps_left : (plan : Option Tear) → KeepsSending caught sent (call_left_by plan list call).list (call_left_by plan list call).lost
   keeps_left None found = found_either found
   keeps_left (Some tear) found = keeps_at tear.at found
 
@@ -99,7 +99,7 @@ keeps_call : (caught : List Caught) (sent : List (List ℕ)) (row : StoreRow) (p
     → RowKeeps caught sent (if cut then cut_call plan row call else made_call row call)
 keeps_call caught sent row plan call true sure before behind = keeps_left caught sent row.list call (before refl) behind plan
 keeps_call caught sent row plan call false sure before behind =
-    subst (λ (lost : Option Call). Keeps caught sent (called row.list call) lost) (sym sure) (λ found. behind)
+    subst (λ (lost : Option Call). KeepsSending caught sent (called row.list call) lost) (sym sure) (λ found. behind)
 
 adds_keep : (caught : List Caught) (sent : List (List ℕ)) (row : StoreRow) (plan : Option Tear) (message : List ℕ) (cut : Bool) → row.lost ≡ None
     → RowKeeps caught sent row
@@ -111,7 +111,7 @@ adds_keep caught sent row plan message cut is keeps =
     (subst (λ (xs : List (List ℕ)). Sends (caught ++ c ∷ []) xs) (append_assoc sent row.list (message ∷ [])) (with_one caught (sent ++ row.list) c here))
 
 drops_keep : (caught : List Caught) (sent : List (List ℕ)) (row : StoreRow) (plan : Option Tear) (message : List ℕ) (others : List (List ℕ)) → row.lost ≡ None
-    → row.list ≡ message ∷ others → RowKeeps caught sent row → RowKeeps caught (sent ++ message ∷ []) (call_by plan row Drops)
+    → row.list ≡ message ∷ others → RowKeeps caught sent row → RowKeeps caught (sent ++ message ∷ []) (call_under_plan plan row Drops)
 drops_keep caught sent row plan message others is list keeps =
     let whole : List (List ℕ) = sent ++ row.list in
     let sends = left_here caught sent row.list row.lost is keeps in
@@ -120,7 +120,7 @@ drops_keep caught sent row plan message others is list keeps =
     ap (λ (xs : List (List ℕ)). (sent ++ message ∷ []) ++ xs) list ∙ append_assoc sent (message ∷ []) (message ∷ others) in
     let behind : (sent ++ message ∷ []) ++ drop 1 row.list ≡ sent ++ message ∷ others =
     ap (λ (xs : List (List ℕ)). (sent ++ message ∷ []) ++ drop 1 xs) list ∙ append_assoc sent (message ∷ []) others in
-    keeps_call caught (sent ++ message ∷ []) row plan Drops (is_cut plan row) is
+    keeps_call caught (sent ++ message ∷ []) row plan Drops (is_next_cut plan row) is
     (λ cut. subst (λ (xs : List (List ℕ)). Sends caught xs) (sym before) (repeated caught whole sends sent message others lists))
     (subst (λ (xs : List (List ℕ)). Sends caught xs) (lists ∙ sym behind) sends)
 
@@ -133,23 +133,23 @@ pub store_keeps : StoreKeeps
 store_keeps = record {
   begins = λ found. none;
   opens = λ caught sent row found keeps other. keeps found;
-  adds = λ caught sent row plan message is keeps. adds_keep caught sent row plan message (is_cut plan row) is keeps;
+  adds = λ caught sent row plan message is keeps. adds_keep caught sent row plan message (is_next_cut plan row) is keeps;
   drops = drops_keep;
   ends = ends_keep;
 }
 
-either_found : (list : List (List ℕ)) (call : Call) (found : Bool) → (found_by list (Some call) found ≡ list) ⊎ (found_by list (Some call) found ≡ called list call)
+either_found : (list : List (List ℕ)) (call : Call) (found : Bool) → (list_found list (Some call) found ≡ list) ⊎ (list_found list (Some call) found ≡ called list call)
 either_found list call true = inr refl
 either_found list call false = inl refl
 
 first_found : (list : List (List ℕ)) (call : Call) (first found : Bool)
-    → (found_by list (if first then None else Some call) found ≡ list) ⊎ (found_by list (if first then None else Some call) found ≡ called list call)
+    → (list_found list (if first then None else Some call) found ≡ list) ⊎ (list_found list (if first then None else Some call) found ≡ called list call)
 first_found list call true found = inl refl
 first_found list call false found = either_found list call found
 
 at_found : (at : TearAt) (list : List (List ℕ)) (call : Call) (found : Bool)
-    → (found_by (left_at at list call).list (left_at at list call).lost found ≡ list)
-    ⊎ (found_by (left_at at list call).list (left_at at list call).lost found ≡ called list call)
+    → (list_found (call_left_at at list call).list (call_left_at at list call).lost found ≡ list)
+    ⊎ (list_found (call_left_at at list call).list (call_left_at at list call).lost found ≡ called list call)
 at_found (Before number) list call found = first_found list call (number == 1) found
 at_found (Within number) list call found = either_found list call found
 at_found Release list call found = inr refl

@@ -15,22 +15,22 @@ called list (Adds message) = list ++ message ∷ []
 called list Drops = drop 1 list
 
 -- what an opening finds: the list with the lost call, or without it
-abbrev pub found_by : List (List ℕ) → Option Call → Bool → List (List ℕ)
-found_by list None found = list
-found_by list (Some call) found = if found then called list call else list
+abbrev pub list_found : List (List ℕ) → Option Call → Bool → List (List ℕ)
+list_found list None found = list
+list_found list (Some call) found = if found then called list call else list
 
 -- a list, and a lost call that the next opening finds or doesn't
-pub record Left : Type 0 where
+pub record CallLeft : Type 0 where
   pub list : List (List ℕ)
   pub lost : Option Call
 
 -- What is left of a call that is cut: the list before it where its first write was cut before it began, the list behind
 -- it where the release was cut, and at every other place either.
-abbrev pub left_at : TearAt → List (List ℕ) → Call → Left
-left_at (Before number) list call = record { list = list; lost = if number == 1 then None else Some call }
-left_at (Within number) list call = record { list = list; lost = Some call }
-left_at Release list call = record { list = called list call; lost = None }
+abbrev pub call_left_at : TearAt → List (List ℕ) → Call → CallLeft
+call_left_at (Before number) list call = record { list = list; lost = if number == 1 then None else Some call }
+call_left_at (Within number) list call = record { list = list; lost = Some call }
+call_left_at Release list call = record { list = called list call; lost = None }
 
-abbrev pub left_by : Option Tear → List (List ℕ) → Call → Left
-left_by None list call = record { list = list; lost = Some call }
-left_by (Some tear) list call = left_at tear.at list call
+abbrev pub call_left_by : Option Tear → List (List ℕ) → Call → CallLeft
+call_left_by None list call = record { list = list; lost = Some call }
+call_left_by (Some tear) list call = call_left_at tear.at list call

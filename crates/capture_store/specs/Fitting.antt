@@ -2,21 +2,21 @@
 -- delivery there is room for one message more (this project's own).
 use Rattle.std.specs.Prelude.{◌≡◌, ℕ, ◌<◌, Bool, false, List, length, Option, None}
 use Rattle.emv_ports.specs.declared.tear.Tear.{Tear}
-use Rattle.capture_store.specs.Calls.{Adds, Drops, found_by}
-use Rattle.capture_store.specs.Spelling.{IsMessage, IsList}
-use Rattle.capture_store.specs.StoreRow.{StoreRow, new_store, is_cut, opened, opened_to_add, call_by, delivered_by}
+use Rattle.capture_store.specs.Calls.{Adds, Drops, list_found}
+use Rattle.capture_store.specs.Spelling.{IsCaptureMessage, IsList}
+use Rattle.capture_store.specs.StoreRow.{StoreRow, new_store, is_next_cut, store_opened, opened_to_add, call_under_plan, delivered_by}
 
 -- whatever the next opening would find fits
 abbrev pub RowFits : StoreRow → Type 0
-RowFits row = (found : Bool) → IsList (found_by row.list row.lost found)
+RowFits row = (found : Bool) → IsList (list_found row.list row.lost found)
 
 pub record StoreFits : Type 0 where
   pub begins : RowFits new_store
-  pub opens : (row : StoreRow) (found : Bool) → RowFits row → RowFits (opened row found)
-  pub adds : (row : StoreRow) (plan : Option Tear) (message : List ℕ) → row.lost ≡ None → length row.list < 7 → IsMessage message → RowFits row
-      → RowFits (call_by plan row (Adds message))
-  pub drops : (row : StoreRow) (plan : Option Tear) → row.lost ≡ None → RowFits row → RowFits (call_by plan row Drops)
+  pub opens : (row : StoreRow) (found : Bool) → RowFits row → RowFits (store_opened row found)
+  pub adds : (row : StoreRow) (plan : Option Tear) (message : List ℕ) → row.lost ≡ None → length row.list < 7 → IsCaptureMessage message → RowFits row
+      → RowFits (call_under_plan plan row (Adds message))
+  pub drops : (row : StoreRow) (plan : Option Tear) → row.lost ≡ None → RowFits row → RowFits (call_under_plan plan row Drops)
   -- where no delivery is due there is room
   pub room : (row : StoreRow) (found : Bool) → RowFits row → (opened_to_add row found).due ≡ false → length (opened_to_add row found).list < 7
   -- and so there is behind a delivery
-  pub delivers : (row : StoreRow) (plan : Option Tear) → row.lost ≡ None → is_cut plan row ≡ false → RowFits row → length (delivered_by plan row).list < 7
+  pub delivers : (row : StoreRow) (plan : Option Tear) → row.lost ≡ None → is_next_cut plan row ≡ false → RowFits row → length (delivered_by plan row).list < 7

@@ -1,9 +1,9 @@
 pub mod Calls
 pub mod Spelling
 pub mod ListPages
-pub mod SeenStock
+pub mod SeenCaptureList
 pub mod StoreRow
-pub mod SeenShelf
+pub mod SeenLaneStore
 pub mod Sending
 pub mod Fitting
 pub mod Waits

@@ -4,15 +4,15 @@
 //! waits in working memory.
 #![tactic(auto)]
 
-mod captures;
+mod by_value;
+mod capture_list;
+mod lane_store;
 mod laws;
-mod shelf;
 mod spelled;
-mod stock;
 mod waiting;
 
-pub use captures::Captures;
+pub use by_value::Captures;
+pub use capture_list::prepare;
+pub use lane_store::LaneStore;
 pub use laws::{lost_calls_leave_one_of_two, stores_have_room, stores_keep_what_is_sent};
-pub use shelf::Shelf;
-pub use stock::prepare;
 pub use waiting::Waiting;

@@ -1,7 +1,8 @@
 //! The bytes of a list of messages, and how they change.
-ghost use Rattle.std.specs.Prelude.{◌≡◌, ◌<◌, ◌≤◌, ◌+◌, ◌*◌, ◌∷◌, ◌++◌, [], length, drop, slice_get, slice_index, Some};
+ghost use Rattle.std.specs.Prelude.{◌≡◌, ◌≤◌, ◌+◌, ◌*◌, ◌∷◌, ◌++◌, [], length, drop, slice_get, slice_index, Some};
 ghost use Rattle.arrayvec.specs.ArrayVec.{array_vec_len};
-ghost use Rattle.capture_store.specs.Spelling.{IsMessage, IsState, entry, list_in};
+ghost use Rattle.capture_store.specs.SeenCaptureList.{MayAdd};
+ghost use Rattle.capture_store.specs.Spelling.{IsCaptureMessage, IsState, HasFirst, counted_message, list_of_state};
 
 use arrayvec::ArrayVec;
 
@@ -28,7 +29,7 @@ fn append(out: &mut State, bytes: &[u8])
 /// Appends a message behind its length.
 fn append_entry(out: &mut State, message: &[u8])
     requires { array_vec_len out.old + 2 + length message.now ≤ 1024 }
-    ensures { out.new.items ≡ out.old.items ++ entry message.now }
+    ensures { out.new.items ≡ out.old.items ++ counted_message message.now }
 {
     let size = [(message.len() / 256) as u8, (message.len() % 256) as u8];
     append(out, &size);
@@ -38,7 +39,7 @@ fn append_entry(out: &mut State, message: &[u8])
 /// How many messages a state has.
 pub(crate) fn count_in(state: &[u8]) -> u8
     requires { IsState state.now }
-    ensures { result ≡ length (list_in state.now) }
+    ensures { result ≡ length (list_of_state state.now) }
 {
     state[1]
 }
@@ -53,10 +54,9 @@ fn first_size(state: &[u8]) -> usize
 
 /// The first message of a state that has one.
 pub(crate) fn first_in(state: &[u8]) -> &[u8]
-    requires state { IsState state.now }
-    requires some { 0 < length (list_in state.now) }
-    ensures first { slice_get (list_in state.now) 0 ≡ Some result.now }
-    ensures fits { IsMessage result.now }
+    requires { HasFirst state.now }
+    ensures first { slice_get (list_of_state state.now) 0 ≡ Some result.now }
+    ensures fits { IsCaptureMessage result.now }
 {
     let end = 4 + first_size(state);
     &state[4..end]
@@ -65,10 +65,9 @@ pub(crate) fn first_in(state: &[u8]) -> &[u8]
 /// Makes `out` the state with one more message behind the others.
 pub(crate) fn put_longer(state: &[u8], message: &[u8], out: &mut State)
     requires state { IsState state.now }
-    requires room { length (list_in state.now) < 7 }
-    requires message { IsMessage message.now }
+    requires may { MayAdd (list_of_state state.now) message.now }
     ensures state { IsState out.new.items }
-    ensures list { list_in out.new.items ≡ list_in state.now ++ message.now ∷ [] }
+    ensures list { list_of_state out.new.items ≡ list_of_state state.now ++ message.now ∷ [] }
 {
     out.clear();
     append(out, &[VERSION, count_in(state) + 1]);
@@ -78,11 +77,10 @@ pub(crate) fn put_longer(state: &[u8], message: &[u8], out: &mut State)
 
 /// Makes `out` the state without the first message.
 pub(crate) fn put_shorter(state: &[u8], out: &mut State)
-    requires state { IsState state.now }
+    requires first { HasFirst state.now }
     requires fits { length state.now ≤ 1024 }
-    requires some { 0 < length (list_in state.now) }
     ensures state { IsState out.new.items }
-    ensures list { list_in out.new.items ≡ drop 1 (list_in state.now) }
+    ensures list { list_of_state out.new.items ≡ drop 1 (list_of_state state.now) }
 {
     let end = 4 + first_size(state);
     out.clear();

@@ -10,7 +10,7 @@ const MOST: usize = 2048;
 
 /// Where a message stands among the bytes of all of them.
 #[derive(Clone, Copy)]
-pub(crate) struct Place {
+pub(crate) struct MessagePlace {
     pub start: usize,
     pub end: usize,
 }
@@ -19,7 +19,7 @@ pub(crate) struct Place {
 /// each takes as many as it has. Contracts see them as a list.
 #[derive(Drop)]
 pub struct Waiting {
-    places: Vec<Place>,
+    places: Vec<MessagePlace>,
     bytes: Vec<u8>,
 }
 
@@ -79,7 +79,7 @@ impl Waiting {
             unreachable!();
         }
         let end = self.bytes.len();
-        if self.places.push(Place { start, end }).is_err() {
+        if self.places.push(MessagePlace { start, end }).is_err() {
             unreachable!();
         }
     }

@@ -1,8 +1,9 @@
 pub mod Answering
+pub mod AtWork
 pub mod Cryptograms
 pub mod Files
 pub mod Options
-pub mod Orders
+pub mod ScriptCommands
 pub mod OwnLists
 pub mod Pin
 pub mod Replies
@@ -10,4 +11,4 @@ pub mod SeenCard
 pub mod SeenReply
 pub mod Selection
 pub mod Session
-pub mod SeenChip
+pub mod SeenIcc

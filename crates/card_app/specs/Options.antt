@@ -8,7 +8,7 @@ use Rattle.card_policy.specs.Policy.{may_start}
 use Rattle.card_state.specs.declared.decision.Decision.TheVariants.{Started as TakesCounter}
 use Rattle.card_state.specs.declared.state.AppState.{AppState}
 use Rattle.card_app.specs.OwnLists.{pdol_total}
-use Rattle.card_pages.specs.Replies.{ReplyData, refused, decides}
+use Rattle.card_pages.specs.Replies.{CardReplyData, refused, decides}
 
 -- the data is one object 83 alone, with the data of the list
 abbrev pub is_of_size : ℕ → Option (List ℕ) → Bool
@@ -24,7 +24,7 @@ body_for a = options_body a.gpo_format a.aip a.afl
 abbrev pub starts : AppData → AppState → Bool → Bool
 starts a s card_blocked = may_start s card_blocked && nat_le (length (body_for a)) 256
 
-unfoldable pub options_of : Bool → ℕ → List ℕ → AppData → AppState → ReplyData
+unfoldable pub options_of : Bool → ℕ → List ℕ → AppData → AppState → CardReplyData
 options_of card_blocked app body a s =
     if not (is_of_size (pdol_total a.pdol) (sole_value 0x83 (items_of body))) then refused 0x6700
     else if not (starts a s card_blocked) then refused 0x6985

@@ -4,9 +4,9 @@ use Rattle.std.specs.Str.{bytes_eq}
 use Rattle.card_files.specs.Views.{AppData}
 use Rattle.card_state.specs.declared.state.AppState.{AppState}
 use Rattle.card_pages.specs.Comparing.{compared, has_pin}
-use Rattle.card_pages.specs.Replies.{ReplyData, refused}
+use Rattle.card_pages.specs.Replies.{CardReplyData, refused}
 
-unfoldable pub verify_of : ℕ → List ℕ → AppData → AppState → ReplyData
+unfoldable pub verify_of : ℕ → List ℕ → AppData → AppState → CardReplyData
 verify_of app block a s =
     if not (length block == 8) then refused 0x6700
     else if not (has_pin s) then refused 0x6A88

@@ -2,6 +2,7 @@
 use Rattle.std.specs.Prelude.{◌≡◌, ℕ, ◌+◌, List, [], ◌∷◌, ◌++◌, false, length, Option, None}
 use Rattle.card_files.specs.Files.{opening_of}
 use Rattle.card_files.specs.Views.{ImageData}
+use Rattle.card_state.specs.Allowed.{Allowed}
 use Rattle.card_state.specs.Decisions.{Decided}
 use Rattle.emv_ports.specs.Memory.{Memory}
 use Rattle.emv_ports.specs.declared.tear.Tear.{Tear}
@@ -46,3 +47,25 @@ IsRunning seen = (session : List Exchange) × (ds : List Decided) × (plan : Opt
 pub record IsCardOff (image : ImageData) (memory : Memory) : Type 0 where
   pub off : memory.on ≡ false
   pub stands : (kept : List Decided) × (pending : Option Decided) × MayStand memory.cells image.version (opening_of image) kept pending
+
+-- the command was answered so, whatever session and decisions the card stood for
+abbrev pub AnswersCard : CardSeen → CardSeen → List ℕ → List ℕ → Type 0
+AnswersCard old new command answer =
+    (session : List Exchange) (ds : List Decided) (plan : Option Tear) (made : ℕ) → CardOn old session ds plan made
+    → Answered old new session ds plan made command answer
+
+-- the command was cut off, whatever session and decisions the card stood for
+abbrev pub CutsCard : CardSeen → Memory → List ℕ → Type 0
+CutsCard old lost command =
+    (session : List Exchange) (ds : List Decided) (plan : Option Tear) (made : ℕ) → CardOn old session ds plan made
+    → CutOff old lost session ds plan made command
+
+-- a list of allowed decisions stays one with those of the command, whether it is answered or cut off
+abbrev pub AllowsCard : CardSeen → List ℕ → Type 0
+AllowsCard old command =
+    (session : List Exchange) (ds : List Decided) (plan : Option Tear) (made : ℕ) → CardOn old session ds plan made → Allowed (opening_of old.image) ds
+    → Allowed (opening_of old.image) (ds ++ (card_answer old.image ds session command).new)
+
+-- pages that may stand for decisions of a card of this image
+abbrev pub MayBeCard : ImageData → Memory → List Decided → Option Decided → Type 0
+MayBeCard image memory kept pending = MayStand memory.cells image.version (opening_of image) kept pending

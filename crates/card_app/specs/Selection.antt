@@ -13,17 +13,17 @@ first_named number name (app ∷ apps) =
     if starts_with nat_eq app.name name then Some number else first_named (number + 1) name apps
 
 -- the number behind the selected application
-abbrev pub behind : Option ℕ → ℕ
-behind None = 0
-behind (Some app) = app + 1
+abbrev pub next_app_number : Option ℕ → ℕ
+next_app_number None = 0
+next_app_number (Some app) = app + 1
 
 -- where SELECT begins to look: the next occurrence (P2 02) is behind the selected application
 abbrev pub looks_from : Phase → ℕ → ℕ
-looks_from phase p2 = if p2 == 2 then behind (current phase) else 0
+looks_from phase p2 = if p2 == 2 then next_app_number (current phase) else 0
 
 -- the application that SELECT with these data finds
-abbrev pub found : List AppData → Phase → ℕ → List ℕ → Option ℕ
-found apps phase p2 name = first_named (looks_from phase p2) name (drop (looks_from phase p2) apps)
+abbrev pub app_found : List AppData → Phase → ℕ → List ℕ → Option ℕ
+app_found apps phase p2 name = first_named (looks_from phase p2) name (drop (looks_from phase p2) apps)
 
 -- the file of the directory, where SELECT of the first occurrence has its name and the card has one
 abbrev pub directory_asked : ImageData → ℕ → List ℕ → Option ℕ

@@ -11,7 +11,7 @@ use Rattle.card_state.specs.declared.decision.Auth.{Auth}
 use Rattle.card_state.specs.declared.decision.Auth.TheVariants.{Absent}
 use Rattle.emv_dict.specs.declared.ending.Kind.{Kind}
 use Rattle.emv_dict.specs.declared.ending.Kind.TheVariants.{Aac, Tc, Arqc}
-use Rattle.card_app.specs.Selection.{found, directory_asked}
+use Rattle.card_app.specs.Selection.{app_found, directory_asked}
 use Rattle.card_app.specs.OwnLists.{cdol_of}
 use Rattle.card_cryptogram.specs.declared.phase.First.{First}
 use Rattle.card_cryptogram.specs.declared.phase.Phase.{Phase}
@@ -23,12 +23,12 @@ pub record Exchange : Type 0 where
   pub answer : List ℕ
 
 -- SELECT gave file control information: also where the application is blocked
-abbrev pub is_shown : ℕ → Bool
-is_shown status = status == 0x9000 || status == 0x6283
+abbrev pub gives_fci : ℕ → Bool
+gives_fci status = status == 0x9000 || status == 0x6283
 
-abbrev pub selected : Option ℕ → Phase → Phase
-selected (Some app) phase = Selected app
-selected None phase = phase
+abbrev pub phase_selected : Option ℕ → Phase → Phase
+phase_selected (Some app) phase = Selected app
+phase_selected None phase = phase
 
 -- the directory was asked for, else an application
 abbrev pub directory_selected : Option ℕ → Phase → Phase
@@ -36,7 +36,7 @@ directory_selected (Some sfi) other = Directory
 directory_selected None other = other
 
 abbrev pub after_select : ImageData → Phase → CommandData → Phase
-after_select image phase c = directory_selected (directory_asked image c.p2 c.body) (selected (found image.apps phase c.p2 c.body) phase)
+after_select image phase c = directory_selected (directory_asked image c.p2 c.body) (phase_selected (app_found image.apps phase c.p2 c.body) phase)
 
 abbrev pub started : Phase → Phase
 started (Selected app) = Started app
@@ -48,11 +48,11 @@ started (Closed app) = Closed app
 started (Done app first) = Done app first
 
 -- a request to go online
-abbrev pub is_request : Option Kind → Bool
-is_request (Some Arqc) = true
-is_request (Some Tc) = false
-is_request (Some Aac) = false
-is_request None = false
+abbrev pub is_online_asked : Option Kind → Bool
+is_online_asked (Some Arqc) = true
+is_online_asked (Some Tc) = false
+is_online_asked (Some Aac) = false
+is_online_asked None = false
 
 -- what of the first cryptogram the later commands refer to: what was given for it, at its places in the data of
 -- the command, and the cryptogram, at its place in the body of the answer
@@ -60,11 +60,11 @@ abbrev pub first_in : AppData → List ℕ → List ℕ → First
 first_in a filled body = record { given = first_given (cdol_of a.cdol1) filled; cryptogram = cryptogram_in a.ac_format body }
 
 -- the first cryptogram was made: online behind a request, closed behind another kind
-abbrev pub begun : ℕ → AppData → List ℕ → List ℕ → Phase
-begun app a filled body = if is_request (kind_in a.ac_format body) then Online app (first_in a filled body) None else Closed app
+abbrev pub phase_behind_first : ℕ → AppData → List ℕ → List ℕ → Phase
+phase_behind_first app a filled body = if is_online_asked (kind_in a.ac_format body) then Online app (first_in a filled body) None else Closed app
 
 abbrev pub begun_of : ℕ → Option AppData → List ℕ → List ℕ → Phase
-begun_of app (Some a) filled body = begun app a filled body
+begun_of app (Some a) filled body = phase_behind_first app a filled body
 begun_of app None filled body = Started app
 
 -- a cryptogram was made for these data, and the body holds it
@@ -78,23 +78,23 @@ with_cryptogram image filled body (Closed app) = Closed app
 with_cryptogram image filled body (Done app first) = Done app first
 
 -- EXTERNAL AUTHENTICATE was sent, and authenticated the issuer so
-abbrev pub authenticated : Auth → Phase → Phase
-authenticated auth (Online app first sent) = Online app first (Some auth)
-authenticated auth Idle = Idle
-authenticated auth Directory = Directory
-authenticated auth (Selected app) = Selected app
-authenticated auth (Started app) = Started app
-authenticated auth (Closed app) = Closed app
-authenticated auth (Done app first) = Done app first
+abbrev pub phase_authenticated : Auth → Phase → Phase
+phase_authenticated auth (Online app first sent) = Online app first (Some auth)
+phase_authenticated auth Idle = Idle
+phase_authenticated auth Directory = Directory
+phase_authenticated auth (Selected app) = Selected app
+phase_authenticated auth (Started app) = Started app
+phase_authenticated auth (Closed app) = Closed app
+phase_authenticated auth (Done app first) = Done app first
 
 -- the phase behind a command with this body and status of its answer
 unfoldable pub next_phase : ImageData → Phase → CommandData → List ℕ → ℕ → Phase
 next_phase image phase c body status =
-    if c.ins == 0xA4 then (if is_shown status then after_select image phase c else phase)
+    if c.ins == 0xA4 then (if gives_fci status then after_select image phase c else phase)
     else if c.ins == 0xA8 then (if status == 0x9000 then started phase else phase)
     else if c.ins == 0xAE then (if status == 0x9000 then with_cryptogram image c.body body phase else phase)
     else if c.ins == 0x82 then
-    (if status == 0x9000 then authenticated (told_by c.body) phase else if status == 0x6300 then authenticated Absent phase else phase)
+    (if status == 0x9000 then phase_authenticated (told_by c.body) phase else if status == 0x6300 then phase_authenticated Absent phase else phase)
     else phase
 
 abbrev pub after_said : ImageData → Phase → Option CommandData → Option ResponseData → Phase
@@ -103,9 +103,9 @@ after_said image phase (Some c) None = phase
 after_said image phase None r = phase
 
 -- the phase behind one more command and its answer
-abbrev pub after : ImageData → Phase → Exchange → Phase
-after image phase x = after_said image phase (command_of x.command) (response_of x.answer)
+abbrev pub phase_after_exchange : ImageData → Phase → Exchange → Phase
+phase_after_exchange image phase x = after_said image phase (command_of x.command) (response_of x.answer)
 
 -- the phase behind all of a session
 unfoldable pub phase_of : ImageData → List Exchange → Phase
-phase_of image session = fold (after image) Idle session
+phase_of image session = fold (phase_after_exchange image) Idle session

@@ -1,23 +1,15 @@
 //! An application, its state and its object lists.
 ghost use Rattle.std.specs.Prelude.{◌≡◌, ◌<◌, ◌≤◌, length, slice_get, Some, IsTrue, is_some, option_map, if◌then◌else◌};
-ghost use Rattle.card_files.specs.Kept.{KeepsRules};
+ghost use Rattle.card_files.specs.ImageRules.{KeepsRules};
 ghost use Rattle.card_files.specs.Lists.{entries_within, most_cdol, is_optional_pdol};
 ghost use Rattle.card_state.specs.Encoding.{HasShortLogs};
 ghost use Rattle.card_app.specs.OwnLists as spec;
 
+use crate::work::{AtWork, CardAtWork};
 use card_files::lists::{MOST_CDOL, MOST_PDOL, list_within};
 use card_files::{AppImage, Image};
 use card_state::{AppState, CardState};
 use object_lists::{Dol, total};
-
-/// An application at work: its number, its image, its state, and whether the card is blocked.
-#[derive(Clone, Copy)]
-pub(crate) struct AtWork<'a> {
-    pub(crate) number: u8,
-    pub(crate) app: &'a AppImage,
-    pub(crate) state: &'a AppState,
-    pub(crate) card_blocked: bool,
-}
 
 /// The image of the application of this number.
 pub(crate) fn app_at(image: &Image, app: u8) -> &AppImage
@@ -36,6 +28,22 @@ pub(crate) fn state_at(state: &CardState, app: u8) -> &AppState
     ensures short { HasShortLogs state.now → result.now.log_max ≤ 10 }
 {
     &state.apps.as_slice()[usize::from(app)]
+}
+
+/// The application of this number at work.
+pub(crate) fn at_work<'a>(at: &CardAtWork<'a>, app: u8) -> AtWork<'a>
+    requires { app < length at.now.image.now.apps }
+    ensures number { result.number ≡ app }
+    ensures image { slice_get at.now.image.now.apps app ≡ Some result.app.now }
+    ensures state { slice_get at.now.state.now.apps.items app ≡ Some result.state.now }
+    ensures blocked { result.card_blocked ≡ at.now.state.now.blocked }
+{
+    AtWork {
+        number: app,
+        app: app_at(at.image, app),
+        state: state_at(at.state, app),
+        card_blocked: at.state.blocked,
+    }
 }
 
 /// The entries of an object list of GENERATE AC, which an image has only where they can be read.

@@ -1,7 +1,7 @@
 //! EXTERNAL AUTHENTICATE (EMV 4.3 Book 3 section 6.5.4).
 ghost use Rattle.std.specs.Prelude.{◌≡◌, ◌&&◌, [], length, Some, None, nat_le, if◌then◌else◌};
 ghost use Rattle.apdu_core.specs.Seen.{seen_command};
-ghost use Rattle.card_app.specs.SeenReply.{reply_data, Leads, LeadsFor, MayReply, MayFor, IsAt};
+ghost use Rattle.card_app.specs.SeenReply.{MakesReplyFor, ObeysRow};
 ghost use Rattle.card_app.specs.Cryptograms as spec;
 ghost use Rattle.card_cryptogram.specs.Authentication.{is_authenticated as authenticates, steered_by as steers};
 ghost use Rattle.card_cryptogram.specs.declared.phase.Phase.TheVariants.{Online};
@@ -10,6 +10,7 @@ ghost use Rattle.card_app.specs.declared.reply.Reply.TheVariants.{Decides};
 
 use crate::apps::{app_at, state_at};
 use crate::reply::{Reply, refused};
+use crate::work::CardAtWork;
 use apdu_core::Command;
 use apdu_core::status::{
     AUTHENTICATION_FAILED, CONDITIONS_NOT_SATISFIED, NO_ERROR, WRONG_LENGTH, WRONG_PARAMETERS,
@@ -18,8 +19,8 @@ use card_cryptogram::{
     First, Phase, authentication, has_issuer_auth, is_authenticated, is_authentication_size,
     steered_by,
 };
-use card_files::{AppImage, Image};
-use card_state::{AppState, Auth, CardState, Decision};
+use card_files::AppImage;
+use card_state::{AppState, Auth, Decision};
 
 /// The decision that the issuer is authenticated so, with the answer's status.
 fn judged(number: u8, first: First, auth: Auth, limit: u8, status: u16) -> Reply
@@ -44,9 +45,7 @@ fn judged(number: u8, first: First, auth: Auth, limit: u8, status: u16) -> Reply
 #[tactic(auto, unfolding(crate::specs::Cryptograms::authenticate_for, crate::specs::Session::next_phase))]
 fn judge(app: &AppImage, state: &AppState, number: u8, first: First, command: &Command<'_>) -> Reply
     requires ins { command.now.ins ≡ 0x82 }
-    ensures said { reply_data [] result ≡ spec.authenticate_for number first command.now.body.now app.now state.now }
-    ensures leads { LeadsFor number app.now (Online number first None) (seen_command command.now) [] result }
-    ensures may { MayFor number state.now result }
+    ensures { MakesReplyFor number app.now state.now (Online number first None) (seen_command command.now) [] result (spec.authenticate_for number first command.now.body.now app.now state.now) }
 {
     let phase = Phase::Online {
         app: number,
@@ -68,34 +67,25 @@ fn judge(app: &AppImage, state: &AppState, number: u8, first: First, command: &C
 
 /// EXTERNAL AUTHENTICATE, once in a transaction.
 #[tactic(auto, unfolding(crate::specs::Cryptograms::authenticate_row, crate::specs::Session::next_phase))]
-pub(crate) fn authenticate(
-    image: &Image,
-    state: &CardState,
-    phase: Phase,
-    command: &Command<'_>,
-) -> Reply
-    requires apps { length state.now.apps.items ≡ length image.now.apps }
-    requires at { IsAt phase (length image.now.apps) }
+pub(crate) fn authenticate(at: &CardAtWork<'_>, command: &Command<'_>) -> Reply
     requires ins { command.now.ins ≡ 0x82 }
-    ensures said { reply_data [] result ≡ spec.authenticate_row image.now state.now phase (seen_command command.now) }
-    ensures leads { Leads image.now phase (Some (seen_command command.now)) [] result }
-    ensures may { MayReply state.now result }
+    ensures { ObeysRow spec.authenticate_row at.now.image.now at.now.state.now at.now.phase (seen_command command.now) [] result }
 {
     if command.p1 != 0x00 || command.p2 != 0x00 {
-        return refused(phase, WRONG_PARAMETERS);
+        return refused(at.phase, WRONG_PARAMETERS);
     }
-    match phase {
+    match at.phase {
         Phase::Online {
             app,
             first,
             sent: None,
         } => judge(
-            app_at(image, app),
-            state_at(state, app),
+            app_at(at.image, app),
+            state_at(at.state, app),
             app,
             first,
             command,
         ),
-        _ => refused(phase, CONDITIONS_NOT_SATISFIED),
+        _ => refused(at.phase, CONDITIONS_NOT_SATISFIED),
     }
 }

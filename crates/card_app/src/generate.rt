@@ -1,29 +1,28 @@
 //! GENERATE AC (EMV 4.3 Book 3 section 6.5.5).
 ghost use Rattle.std.specs.Prelude.{◌≡◌, ◌≤◌, ◌==◌, [], length, Option, Some, None, IsTrue, if◌then◌else◌};
 ghost use Rattle.apdu_core.specs.Seen.{seen_command};
-ghost use Rattle.card_files.specs.Kept.{KeepsRules};
-ghost use Rattle.card_app.specs.SeenReply.{reply_data, Leads, LeadsFor, MayReply, MayFor, IsAt};
+ghost use Rattle.card_app.specs.SeenReply.{reply_data, LeadsFor, MayFor, MakesReplyFor, ObeysRow};
 ghost use Rattle.card_cryptogram.specs.Fields.{first_given as first_given_of};
 ghost use Rattle.card_cryptogram.specs.Bodies.{body_of, kind_in, cryptogram_in};
 ghost use Rattle.card_state.specs.Change.{changed as state_behind, MayDecide};
-ghost use Rattle.card_state.specs.Encoding.{HasShortLogs};
 ghost use Rattle.card_state.specs.declared.decision.Auth.{Auth as AuthOf};
 ghost use Rattle.card_state.specs.declared.decision.Decision.TheVariants.{First as FirstKind, Second as SecondKind};
 ghost use Rattle.card_app.specs.Cryptograms as spec;
 ghost use Rattle.card_app.specs.OwnLists.{cdol_of as entries_of};
 ghost use Rattle.card_cryptogram.specs.declared.phase.Phase.TheVariants.{Started, Online, Closed};
 
-use crate::apps::{AtWork, app_at, cdol_of, state_at};
-use crate::reply::{Reply, refused};
+use crate::apps::{at_work, cdol_of};
+use crate::reply::{Reply, refuse, refused};
+use crate::work::{AtWork, CardAtWork};
 use apdu_core::Command;
 use apdu_core::status::{CONDITIONS_NOT_SATISFIED, NO_ERROR, WRONG_LENGTH, WRONG_PARAMETERS};
 use card_cryptogram::{
-    Body, First, Given, Phase, auth_of, code_given, cryptogram, first_given, given_from,
+    Body, First, Phase, TerminalFields, auth_of, code_given, cryptogram, first_given, given_from,
     has_issuer_auth, is_of_list, kind_asked, phase_behind, sale_of, write_body,
 };
-use card_files::{AppImage, Image};
+use card_files::AppImage;
 use card_policy::{OnlineResult, first, second};
-use card_state::{AppState, Auth, CardState, Decision, How, changed};
+use card_state::{AppState, Auth, Decision, How, changed};
 use emv_dict::Kind;
 
 /// Makes the cryptogram of a kind with the state behind the decision for it, and writes the answer.
@@ -32,7 +31,7 @@ fn write_cryptogram(
     app: &AppImage,
     state: &AppState,
     kind: Kind,
-    given: &Given,
+    given: &TerminalFields,
     out: &mut Body,
 ) -> [u8; 8]
     ensures body { out.new.items ≡ body_of app.now.ac_format app.now.ac_key app.now.aip state.now kind given.now }
@@ -49,17 +48,14 @@ fn write_cryptogram(
 fn make_first(
     at: &AtWork<'_>,
     kind: Kind,
-    given: Given,
+    given: TerminalFields,
     command: &Command<'_>,
     out: &mut Body,
 ) -> Reply
     requires may { MayDecide at.now.state.now (FirstKind kind (spec.sale_for at.now.app.now given)) }
-    requires short { at.now.state.now.log_max ≤ 10 }
     requires given { given ≡ first_given_of (entries_of at.now.app.now.cdol1) command.now.body.now }
     requires ins { command.now.ins ≡ 0xAE }
-    ensures said { reply_data out.new.items result ≡ spec.first_made at.now.number at.now.app.now at.now.state.now kind given }
-    ensures leads { LeadsFor at.now.number at.now.app.now (Started at.now.number) (seen_command command.now) out.new.items result }
-    ensures may { MayFor at.now.number at.now.state.now result }
+    ensures { MakesReplyFor at.now.number at.now.app.now at.now.state.now (Started at.now.number) (seen_command command.now) out.new.items result (spec.first_made at.now.number at.now.app.now at.now.state.now kind given) }
 {
     let app = at.app;
     let decision = Decision::First {
@@ -76,8 +72,8 @@ fn make_first(
 }
 
 /// The kind of the first cryptogram.
-fn first_of(at: &AtWork<'_>, asked: Kind, given: &Given) -> Kind
-    ensures kind { result ≡ spec.first_of at.now.card_blocked asked at.now.app.now at.now.state.now given.now }
+fn first_of(at: &AtWork<'_>, asked: Kind, given: &TerminalFields) -> Kind
+    ensures kind { result ≡ spec.first_kind_for at.now.card_blocked asked at.now.app.now at.now.state.now given.now }
     ensures may { MayDecide at.now.state.now (FirstKind result (spec.sale_for at.now.app.now given.now)) }
 {
     let app = at.app;
@@ -88,19 +84,13 @@ fn first_of(at: &AtWork<'_>, asked: Kind, given: &Given) -> Kind
 /// The first GENERATE AC.
 #[tactic(auto, unfolding(crate::specs::Cryptograms::first_for, crate::specs::Session::next_phase))]
 fn generate_first(at: &AtWork<'_>, asked: Kind, command: &Command<'_>, out: &mut Body) -> Reply
-    requires empty { out.old.items ≡ [] }
-    requires rules { KeepsRules at.now.app.now }
-    requires short { at.now.state.now.log_max ≤ 10 }
     requires ins { command.now.ins ≡ 0xAE }
-    ensures said { reply_data out.new.items result
-        ≡ spec.first_for at.now.card_blocked at.now.number asked command.now.body.now at.now.app.now at.now.state.now }
-    ensures leads { LeadsFor at.now.number at.now.app.now (Started at.now.number) (seen_command command.now) out.new.items result }
-    ensures may { MayFor at.now.number at.now.state.now result }
+    ensures { MakesReplyFor at.now.number at.now.app.now at.now.state.now (Started at.now.number) (seen_command command.now) out.new.items result (spec.first_for at.now.card_blocked at.now.number asked command.now.body.now at.now.app.now at.now.state.now) }
 {
     let app = at.app;
     let dol = cdol_of(&app.cdol1);
     if !is_of_list(&dol, command.body) {
-        return refused(Phase::Started { app: at.number }, WRONG_LENGTH);
+        return refused(Phase::Started { app: at.number }, refuse(WRONG_LENGTH, out));
     }
     let given = first_given(&dol, command.body);
     let kind = first_of(at, asked, &given);
@@ -113,12 +103,11 @@ fn make_second(
     at: &AtWork<'_>,
     first: First,
     made: (Kind, How),
-    given: &Given,
+    given: &TerminalFields,
     command: &Command<'_>,
     out: &mut Body,
 ) -> Reply
     requires may { MayDecide at.now.state.now (SecondKind made.0 made.1 (spec.sale_for at.now.app.now given.now)) }
-    requires short { at.now.state.now.log_max ≤ 10 }
     requires ins { command.now.ins ≡ 0xAE }
     ensures said { reply_data out.new.items result ≡ spec.second_made at.now.number at.now.app.now at.now.state.now made given.now }
     ensures leads { (sent : Option AuthOf)
@@ -150,7 +139,7 @@ fn second_of(
     asked: Kind,
     sent: Option<Auth>,
     code: [u8; 2],
-    given: &Given,
+    given: &TerminalFields,
 ) -> (Kind, How)
     ensures made { result ≡ spec.second_by at.now.card_blocked asked at.now.app.now at.now.state.now sent code given.now }
     ensures may { MayDecide at.now.state.now (SecondKind result.0 result.1 (spec.sale_for at.now.app.now given.now)) }
@@ -181,12 +170,8 @@ fn generate_second(
     command: &Command<'_>,
     out: &mut Body,
 ) -> Reply
-    requires empty { out.old.items ≡ [] }
-    requires rules { KeepsRules at.now.app.now }
-    requires short { at.now.state.now.log_max ≤ 10 }
     requires ins { command.now.ins ≡ 0xAE }
-    ensures said { reply_data out.new.items result
-        ≡ spec.second_for at.now.card_blocked at.now.number first sent asked command.now.body.now at.now.app.now at.now.state.now }
+    ensures said { reply_data out.new.items result ≡ spec.second_for at.now.card_blocked at.now.number first sent asked command.now.body.now at.now.app.now at.now.state.now }
     ensures leads { LeadsFor at.now.number at.now.app.now (Online at.now.number first sent) (seen_command command.now) out.new.items result }
     ensures may { MayFor at.now.number at.now.state.now result }
 {
@@ -198,10 +183,10 @@ fn generate_second(
     let app = at.app;
     let dol = cdol_of(&app.cdol2);
     if !is_of_list(&dol, command.body) {
-        return refused(phase, WRONG_LENGTH);
+        return refused(phase, refuse(WRONG_LENGTH, out));
     }
     if asked == Kind::Arqc {
-        return refused(phase, WRONG_PARAMETERS);
+        return refused(phase, refuse(WRONG_PARAMETERS, out));
     }
     let given = given_from(&dol, command.body, &first.given);
     let code = code_given(&dol, command.body);
@@ -211,48 +196,22 @@ fn generate_second(
 
 /// GENERATE AC, the first or the second one by the phase.
 #[tactic(auto, unfolding(crate::specs::Cryptograms::generate_row, crate::specs::Session::next_phase))]
-pub(crate) fn generate(
-    image: &Image,
-    state: &CardState,
-    phase: Phase,
-    command: &Command<'_>,
-    out: &mut Body,
-) -> Reply
-    requires empty { out.old.items ≡ [] }
-    requires apps { length state.now.apps.items ≡ length image.now.apps }
-    requires at { IsAt phase (length image.now.apps) }
-    requires short { HasShortLogs state.now }
+pub(crate) fn generate(at: &CardAtWork<'_>, command: &Command<'_>, out: &mut Body) -> Reply
     requires ins { command.now.ins ≡ 0xAE }
-    ensures said { reply_data out.new.items result ≡ spec.generate_row image.now state.now phase (seen_command command.now) }
-    ensures leads { Leads image.now phase (Some (seen_command command.now)) out.new.items result }
-    ensures may { MayReply state.now result }
+    ensures { ObeysRow spec.generate_row at.now.image.now at.now.state.now at.now.phase (seen_command command.now) out.new.items result }
 {
     let Some(asked) = kind_asked(command.p1, command.p2) else {
-        return refused(phase, WRONG_PARAMETERS);
+        return refused(at.phase, refuse(WRONG_PARAMETERS, out));
     };
-    match phase {
-        Phase::Started { app } => {
-            let at = AtWork {
-                number: app,
-                app: app_at(image, app),
-                state: state_at(state, app),
-                card_blocked: state.blocked,
-            };
-            generate_first(&at, asked, command, out)
-        }
+    match at.phase {
+        Phase::Started { app } => generate_first(&at_work(at, app), asked, command, out),
         Phase::Online { app, first, sent } => {
-            let at = AtWork {
-                number: app,
-                app: app_at(image, app),
-                state: state_at(state, app),
-                card_blocked: state.blocked,
-            };
-            generate_second(&at, first, sent, asked, command, out)
+            generate_second(&at_work(at, app), first, sent, asked, command, out)
         }
         Phase::Idle
         | Phase::Directory
         | Phase::Selected { .. }
         | Phase::Closed { .. }
-        | Phase::Done { .. } => refused(phase, CONDITIONS_NOT_SATISFIED),
+        | Phase::Done { .. } => refused(at.phase, refuse(CONDITIONS_NOT_SATISFIED, out)),
     }
 }

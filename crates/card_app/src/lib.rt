@@ -7,17 +7,18 @@
 mod answering;
 mod apps;
 mod authenticate;
-mod card;
-mod chip;
+mod by_value;
 mod files;
 mod generate;
+mod icc;
 mod options;
 mod orders;
 mod reply;
 mod scripts;
 mod selection;
 mod verify;
+mod work;
 
-pub use card::{Card, personalise};
-pub use card_cryptogram::{First, Given, Phase};
-pub use chip::Chip;
+pub use by_value::Card;
+pub use card_cryptogram::{First, Phase, TerminalFields};
+pub use icc::{Icc, personalise};

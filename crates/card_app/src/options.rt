@@ -3,22 +3,23 @@ ghost use Rattle.std.specs.Prelude.{◌≡◌, ◌<◌, ◌≤◌, ◌==◌, ◌
 ghost use Rattle.apdu_core.specs.Seen.{seen_command};
 ghost use Rattle.ber_tlv.specs.Direct as direct;
 ghost use Rattle.ber_tlv.specs.Left.{items_of};
-ghost use Rattle.card_files.specs.Kept.{KeepsRules};
+ghost use Rattle.card_files.specs.ImageRules.{KeepsRules};
 ghost use Rattle.card_app.specs.Answering.{options_row};
 ghost use Rattle.card_app.specs.Options as spec;
 ghost use Rattle.card_app.specs.OwnLists.{pdol_total as total_wanted};
-ghost use Rattle.card_app.specs.SeenReply.{reply_data, Leads, LeadsFor, MayReply, MayFor, IsAt};
+ghost use Rattle.card_app.specs.SeenReply.{MakesReplyFor, ObeysRow};
 ghost use Rattle.card_cryptogram.specs.declared.phase.Phase.TheVariants.{Selected};
 
 use crate::apps::{app_at, pdol_total, state_at};
-use crate::reply::{Reply, refused};
+use crate::reply::{Reply, refuse, refused};
+use crate::work::CardAtWork;
 use apdu_core::Command;
 use apdu_core::status::{CONDITIONS_NOT_SATISFIED, NO_ERROR, WRONG_LENGTH, WRONG_PARAMETERS};
 use ber_tlv::{Tag, sole_value};
 use card_cryptogram::{Body, Phase, write_options};
-use card_files::{AppImage, Image};
+use card_files::AppImage;
 use card_policy::may_start;
-use card_state::{AppState, CardState, Decision};
+use card_state::{AppState, Decision};
 
 /// Whether the data is one object 83 alone, with data of the length that the application's list wants.
 fn is_of_list(app: &AppImage, body: &[u8]) -> bool
@@ -41,14 +42,12 @@ fn start(
     command: &Command<'_>,
     out: &mut Body,
 ) -> Reply
-    requires empty { out.old.items ≡ [] }
     requires rules { KeepsRules app.now }
     requires ins { command.now.ins ≡ 0xA8 }
-    ensures said { reply_data out.new.items result ≡ spec.options_of card_blocked number command.now.body.now app.now state.now }
-    ensures leads { LeadsFor number app.now (Selected number) (seen_command command.now) out.new.items result }
-    ensures may { MayFor number state.now result }
+    ensures { MakesReplyFor number app.now state.now (Selected number) (seen_command command.now) out.new.items result (spec.options_of card_blocked number command.now.body.now app.now state.now) }
 {
     let phase = Phase::Selected { app: number };
+    out.clear();
     if !is_of_list(app, command.body) {
         return refused(phase, WRONG_LENGTH);
     }
@@ -69,31 +68,20 @@ fn start(
 /// GET PROCESSING OPTIONS: the next transaction counter is taken. 6985 comes where the card or the
 /// application is blocked, where no counter is left, and where the answer would not fit.
 #[tactic(auto, unfolding(crate::specs::Answering::options_row, crate::specs::Session::next_phase))]
-pub(crate) fn options(
-    image: &Image,
-    state: &CardState,
-    phase: Phase,
-    command: &Command<'_>,
-    out: &mut Body,
-) -> Reply
-    requires empty { out.old.items ≡ [] }
-    requires apps { length state.now.apps.items ≡ length image.now.apps }
-    requires at { IsAt phase (length image.now.apps) }
+pub(crate) fn options(at: &CardAtWork<'_>, command: &Command<'_>, out: &mut Body) -> Reply
     requires ins { command.now.ins ≡ 0xA8 }
-    ensures said { reply_data out.new.items result ≡ options_row image.now state.now phase (seen_command command.now) }
-    ensures leads { Leads image.now phase (Some (seen_command command.now)) out.new.items result }
-    ensures may { MayReply state.now result }
+    ensures { ObeysRow options_row at.now.image.now at.now.state.now at.now.phase (seen_command command.now) out.new.items result }
 {
     if command.p1 != 0x00 || command.p2 != 0x00 {
-        return refused(phase, WRONG_PARAMETERS);
+        return refused(at.phase, refuse(WRONG_PARAMETERS, out));
     }
-    let Phase::Selected { app } = phase else {
-        return refused(phase, CONDITIONS_NOT_SATISFIED);
+    let Phase::Selected { app } = at.phase else {
+        return refused(at.phase, refuse(CONDITIONS_NOT_SATISFIED, out));
     };
     start(
-        app_at(image, app),
-        state_at(state, app),
-        state.blocked,
+        app_at(at.image, app),
+        state_at(at.state, app),
+        at.state.blocked,
         app,
         command,
         out,

@@ -1,8 +1,8 @@
 //! Replies that are not carried out yet.
-ghost use Rattle.std.specs.Prelude.{◌≡◌};
+ghost use Rattle.std.specs.Prelude.{◌≡◌, []};
 ghost use Rattle.card_app.specs.declared.reply.Reply.TheVariants.{Plain};
 
-use card_cryptogram::Phase;
+use card_cryptogram::{Body, Phase};
 use card_pages::Comparison;
 use card_state::Decision;
 
@@ -31,4 +31,13 @@ pub(crate) fn refused(phase: Phase, status: u16) -> Reply
     ensures { result ≡ Plain status phase }
 {
     Reply::Plain { status, phase }
+}
+
+/// Empties the body, and gives the status of a refusal.
+pub(crate) fn refuse(status: u16, out: &mut Body) -> u16
+    ensures status { result ≡ status }
+    ensures body { out.new.items ≡ [] }
+{
+    out.clear();
+    status
 }

@@ -6,11 +6,13 @@ ghost use Rattle.card_files.specs.Directory.{directory_fci as fci_of_directory};
 ghost use Rattle.card_app.specs.Files as files_spec;
 ghost use Rattle.card_app.specs.Replies.{with_app};
 ghost use Rattle.card_pages.specs.Replies.{shows};
-ghost use Rattle.card_app.specs.SeenReply.{reply_data, Leads, MayReply, IsAt};
+ghost use Rattle.card_app.specs.AtWork.{IsAppThere};
+ghost use Rattle.card_app.specs.SeenReply.{MakesReply, ObeysRow};
 ghost use Rattle.card_app.specs.Selection as spec;
 
 use crate::apps::state_at;
-use crate::reply::{Reply, refused};
+use crate::reply::{Reply, refuse, refused};
+use crate::work::CardAtWork;
 use apdu_core::Command;
 use apdu_core::status::{
     FILE_INVALIDATED, FILE_NOT_FOUND, FUNCTION_NOT_SUPPORTED, NO_ERROR, WRONG_LENGTH,
@@ -18,7 +20,6 @@ use apdu_core::status::{
 };
 use card_cryptogram::{Body, NEXT_OCCURRENCE, Phase, is_by_name, is_name_size};
 use card_files::{AppImage, Image, directory_fci};
-use card_state::CardState;
 
 /// The first application whose name begins with these bytes, where the first one has this number.
 #[tactic(auto, unfolding(crate::specs::Selection::first_named))]
@@ -41,7 +42,7 @@ fn first_named(apps: &[AppImage], number: u8, name: &[u8]) -> Option<u8>
 /// The number from which SELECT looks: for the next occurrence that behind the selected application.
 fn looks_from(phase: Phase, p2: u8, count: usize) -> u8
     requires few { count ≤ 4 }
-    requires at { IsAt phase count }
+    requires at { IsAppThere phase count }
     ensures number { result ≡ spec.looks_from phase p2 }
     ensures within { result ≤ count }
 {
@@ -55,25 +56,23 @@ fn looks_from(phase: Phase, p2: u8, count: usize) -> u8
 }
 
 /// The application that SELECT finds.
-fn find(image: &Image, phase: Phase, p2: u8, name: &[u8]) -> Option<u8>
-    requires { IsAt phase (length image.now.apps) }
-    ensures found { result ≡ spec.found image.now.apps phase p2 name.now }
-    ensures within { IfSome result (λ app. app < length image.now.apps) }
+fn find(at: &CardAtWork<'_>, p2: u8, name: &[u8]) -> Option<u8>
+    ensures found { result ≡ spec.app_found at.now.image.now.apps at.now.phase p2 name.now }
+    ensures within { IfSome result (λ app. app < length at.now.image.now.apps) }
 {
-    let apps = image.apps();
-    let number = looks_from(phase, p2, apps.len());
+    let apps = at.image.apps();
+    let number = looks_from(at.phase, p2, apps.len());
     first_named(&apps[usize::from(number)..], number, name)
 }
 
 /// The file control information; a blocked application is shown with a warning.
-fn show(image: &Image, state: &CardState, app: u8, out: &mut Body) -> u16
-    requires app { app < length image.now.apps }
-    requires apps { length state.now.apps.items ≡ length image.now.apps }
-    ensures said { shows out.new.items result ≡ with_app image.now.apps state.now app files_spec.shown_for }
+fn show(at: &CardAtWork<'_>, app: u8, out: &mut Body) -> u16
+    requires app { app < length at.now.image.now.apps }
+    ensures said { shows out.new.items result ≡ with_app at.now.image.now.apps at.now.state.now app files_spec.shown_for }
     ensures shown { (result ≡ 0x9000) ⊎ (result ≡ 0x6283) }
 {
-    image.fci(app, out);
-    if state_at(state, app).blocked {
+    at.image.fci(app, out);
+    if state_at(at.state, app).blocked {
         FILE_INVALIDATED
     } else {
         NO_ERROR
@@ -93,49 +92,29 @@ fn directory_asked(image: &Image, p2: u8, name: &[u8]) -> Option<u8>
 
 /// SELECT of an application by its name.
 #[tactic(auto, unfolding(crate::specs::Session::next_phase))]
-fn select_app(
-    image: &Image,
-    state: &CardState,
-    phase: Phase,
-    command: &Command<'_>,
-    out: &mut Body,
-) -> Reply
-    requires empty { out.old.items ≡ [] }
-    requires apps { length state.now.apps.items ≡ length image.now.apps }
-    requires at { IsAt phase (length image.now.apps) }
+fn select_app(at: &CardAtWork<'_>, command: &Command<'_>, out: &mut Body) -> Reply
     requires ins { command.now.ins ≡ 0xA4 }
-    requires other { spec.directory_asked image.now command.now.p2 command.now.body.now ≡ None }
-    ensures said { reply_data out.new.items result ≡ files_spec.app_reply image.now state.now phase (seen_command command.now) }
-    ensures leads { Leads image.now phase (Some (seen_command command.now)) out.new.items result }
-    ensures may { MayReply state.now result }
+    requires other { spec.directory_asked at.now.image.now command.now.p2 command.now.body.now ≡ None }
+    ensures { ObeysRow files_spec.app_reply at.now.image.now at.now.state.now at.now.phase (seen_command command.now) out.new.items result }
 {
-    if command.p2 == NEXT_OCCURRENCE && phase.in_directory() {
-        return refused(phase, FILE_NOT_FOUND);
+    if command.p2 == NEXT_OCCURRENCE && at.phase.in_directory() {
+        return refused(at.phase, refuse(FILE_NOT_FOUND, out));
     }
-    match find(image, phase, command.p2, command.body) {
+    match find(at, command.p2, command.body) {
         Some(app) => Reply::Plain {
-            status: show(image, state, app, out),
+            status: show(at, app, out),
             phase: Phase::Selected { app },
         },
-        None => refused(phase, FILE_NOT_FOUND),
+        None => refused(at.phase, refuse(FILE_NOT_FOUND, out)),
     }
 }
 
 /// SELECT of the payment system directory in this file (EMV 4.3 Book 1 section 12.2.2).
 #[tactic(auto, unfolding(crate::specs::Session::next_phase))]
-fn select_directory(
-    image: &Image,
-    state: &CardState,
-    phase: Phase,
-    sfi: u8,
-    command: &Command<'_>,
-    out: &mut Body,
-) -> Reply
+fn select_directory(at: &CardAtWork<'_>, sfi: u8, command: &Command<'_>, out: &mut Body) -> Reply
     requires ins { command.now.ins ≡ 0xA4 }
-    requires asked { spec.directory_asked image.now command.now.p2 command.now.body.now ≡ Some sfi }
-    ensures said { reply_data out.new.items result ≡ shows (fci_of_directory sfi) 0x9000 }
-    ensures leads { Leads image.now phase (Some (seen_command command.now)) out.new.items result }
-    ensures may { MayReply state.now result }
+    requires asked { spec.directory_asked at.now.image.now command.now.p2 command.now.body.now ≡ Some sfi }
+    ensures { MakesReply at.now.image.now at.now.state.now at.now.phase (Some (seen_command command.now)) out.new.items result (shows (fci_of_directory sfi) 0x9000) }
 {
     directory_fci(sfi, out);
     Reply::Plain {
@@ -147,32 +126,21 @@ fn select_directory(
 /// SELECT: the payment system directory by its whole name, where the card has one, else the first
 /// application whose name begins with the data, or the next behind the selected one.
 #[tactic(auto, unfolding(crate::specs::Files::select_row, crate::specs::Session::next_phase))]
-pub(crate) fn select(
-    image: &Image,
-    state: &CardState,
-    phase: Phase,
-    command: &Command<'_>,
-    out: &mut Body,
-) -> Reply
-    requires empty { out.old.items ≡ [] }
-    requires apps { length state.now.apps.items ≡ length image.now.apps }
-    requires at { IsAt phase (length image.now.apps) }
+pub(crate) fn select(at: &CardAtWork<'_>, command: &Command<'_>, out: &mut Body) -> Reply
     requires ins { command.now.ins ≡ 0xA4 }
-    ensures said { reply_data out.new.items result ≡ files_spec.select_row image.now state.now phase (seen_command command.now) }
-    ensures leads { Leads image.now phase (Some (seen_command command.now)) out.new.items result }
-    ensures may { MayReply state.now result }
+    ensures { ObeysRow files_spec.select_row at.now.image.now at.now.state.now at.now.phase (seen_command command.now) out.new.items result }
 {
     if !is_by_name(command.p1, command.p2) {
-        return refused(phase, WRONG_PARAMETERS);
+        return refused(at.phase, refuse(WRONG_PARAMETERS, out));
     }
     if !is_name_size(command.body.len()) {
-        return refused(phase, WRONG_LENGTH);
+        return refused(at.phase, refuse(WRONG_LENGTH, out));
     }
-    if state.blocked {
-        return refused(phase, FUNCTION_NOT_SUPPORTED);
+    if at.state.blocked {
+        return refused(at.phase, refuse(FUNCTION_NOT_SUPPORTED, out));
     }
-    match directory_asked(image, command.p2, command.body) {
-        Some(sfi) => select_directory(image, state, phase, sfi, command, out),
-        None => select_app(image, state, phase, command, out),
+    match directory_asked(at.image, command.p2, command.body) {
+        Some(sfi) => select_directory(at, sfi, command, out),
+        None => select_app(at, command, out),
     }
 }

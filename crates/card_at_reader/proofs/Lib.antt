@@ -1,2 +1,2 @@
+pub mod Serving
 pub mod Sides
-pub mod Talking

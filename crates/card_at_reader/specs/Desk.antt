@@ -2,20 +2,22 @@
 use Rattle.std.specs.Prelude.{◌≡◌, ℕ, ◌+◌, Bool, if◌then◌else◌, List, [], ◌∷◌, ◌++◌, length, codes, Option, Some, None, IsTrue}
 use Rattle.card_app.specs.Answering.{card_answer}
 use Rattle.card_app.specs.SeenCard.{CardSeen}
-use Rattle.card_app.specs.SeenChip.{ChipOn, ChipOff}
+use Rattle.card_app.specs.SeenIcc.{IccOn, IccOff}
 use Rattle.card_app.specs.Session.{Exchange}
 use Rattle.card_files.specs.Files.{opening_of}
 use Rattle.card_files.specs.Views.{ImageData}
-use Rattle.card_pages.specs.Cuts.{Cut, cut_of, left_of, kept_by, pending_by}
+use Rattle.card_pages.specs.Cuts.{Cut, cut_of, fate_by, kept_by, pending_by}
 use Rattle.card_pages.specs.Pages.{found_of}
 use Rattle.card_state.specs.Decisions.{Decided}
 use Rattle.card_state.specs.Totals.{totals}
-use Rattle.emv_ports.specs.Cut.{is_named, is_plan}
+use Rattle.emv_ports.specs.Cut.{names_commit, is_plan}
 use Rattle.emv_ports.specs.declared.tear.Tear.{Tear}
 use Rattle.report_text.specs.Pieces.{hex_or_dash}
 use Rattle.report_text.specs.Text.{all_shown}
 use Rattle.card_counters.specs.Counters.{shown_all}
-use Rattle.card_at_reader.specs.Words.{word_of}
+use Rattle.line_talk.specs.Turns.{Opening, Turn}
+use Rattle.line_talk.specs.declared.party.Onward.TheVariants.{Rests}
+use Rattle.card_at_reader.specs.Words.{line_word}
 use Rattle.card_at_reader.specs.declared.word.Word.{Word}
 use Rattle.card_at_reader.specs.declared.word.Word.TheVariants.{Power, Off, Command, Pull, Other}
 
@@ -35,11 +37,11 @@ abbrev pub at_of : Side → Option Tear → Option Tear → At
 at_of side plan next = record { side = side; plan = plan; next = next }
 
 -- a card that has decided nothing yet
-abbrev pub new_card : At
-new_card = record { side = IsOff [] None; plan = None; next = None }
+abbrev pub desk_at_first : At
+desk_at_first = record { side = IsOff [] None; plan = None; next = None }
 
 -- an answer, and what is behind it
-pub record Turn : Type 0 where
+pub record DeskTurn : Type 0 where
   pub answer : List ℕ
   pub after : At
 
@@ -68,16 +70,16 @@ plan_of plan None = plan
 plan_of plan (Some tear) = Some tear
 
 -- a power-up from off: `with_it` tells whether a decision that was cut is found
-abbrev pub powered : ImageData → Bool → Option Tear → List Decided → Option Decided → Turn
-powered image with_it plan kept pending =
-    if is_named plan 0 then record { answer = torn_power; after = record { side = IsOff kept pending; plan = None; next = None } }
+abbrev pub desk_powered : ImageData → Bool → Option Tear → List Decided → Option Decided → DeskTurn
+desk_powered image with_it plan kept pending =
+    if names_commit plan 0 then record { answer = torn_power; after = record { side = IsOff kept pending; plan = None; next = None } }
     else record {
       answer = power_text image (found_of kept pending with_it);
       after = record { side = IsOn [] (found_of kept pending with_it) 0; plan = plan; next = None };
     }
 
 -- a command to a card that is on, where its plan cuts none of its decisions or this one
-abbrev pub commanded : ImageData → List Exchange → List Decided → ℕ → Option Tear → Option Tear → List ℕ → Option Cut → Turn
+abbrev pub commanded : ImageData → List Exchange → List Decided → ℕ → Option Tear → Option Tear → List ℕ → Option Cut → DeskTurn
 commanded image session ds made plan next command None = record {
   answer = answer_text (card_answer image ds session command).answer;
   after = record {
@@ -89,19 +91,19 @@ commanded image session ds made plan next command None = record {
 }
 commanded image session ds made plan next command (Some cut) = record {
   answer = torn_text;
-  after = record { side = IsOff (kept_by (left_of plan) ds cut) (pending_by (left_of plan) cut); plan = None; next = next };
+  after = record { side = IsOff (kept_by (fate_by plan) ds cut) (pending_by (fate_by plan) cut); plan = None; next = next };
 }
 
 -- by where the card is
-abbrev pub power_turn : ImageData → Bool → Option Tear → Side → Turn
-power_turn image with_it plan (IsOn session ds made) = powered image with_it plan ds None
-power_turn image with_it plan (IsOff kept pending) = powered image with_it plan kept pending
+abbrev pub power_turn : ImageData → Bool → Option Tear → Side → DeskTurn
+power_turn image with_it plan (IsOn session ds made) = desk_powered image with_it plan ds None
+power_turn image with_it plan (IsOff kept pending) = desk_powered image with_it plan kept pending
 
 abbrev pub off_side : Side → Side
 off_side (IsOn session ds made) = IsOff ds None
 off_side (IsOff kept pending) = IsOff kept pending
 
-abbrev pub command_turn : ImageData → At → List ℕ → Side → Turn
+abbrev pub command_turn : ImageData → At → List ℕ → Side → DeskTurn
 command_turn image at command (IsOn session ds made) =
     commanded image session ds made at.plan at.next command (cut_of at.plan made (card_answer image ds session command).new)
 command_turn image at command (IsOff kept pending) = record { answer = other_text; after = at }
@@ -111,11 +113,11 @@ abbrev pub turned_off : At → At
 turned_off at = record { side = off_side at.side; plan = at.plan; next = at.next }
 
 -- a plan for the next power-up
-abbrev pub pull_turn : At → List ℕ → Tear → Turn
+abbrev pub pull_turn : At → List ℕ → Tear → DeskTurn
 pull_turn at line tear = record { answer = line ++ 10 ∷ []; after = record { side = at.side; plan = at.plan; next = Some tear } }
 
 -- by what the line asks
-abbrev pub turn_by : ImageData → Bool → At → List ℕ → Word → Turn
+abbrev pub turn_by : ImageData → Bool → At → List ℕ → Word → DeskTurn
 turn_by image with_it at line Power = power_turn image with_it (plan_of at.plan at.next) at.side
 turn_by image with_it at line Off = record { answer = off_text; after = turned_off at }
 turn_by image with_it at line (Command command) = command_turn image at command.items at.side
@@ -123,18 +125,18 @@ turn_by image with_it at line (Pull tear) = pull_turn at line tear
 turn_by image with_it at line Other = record { answer = other_text; after = at }
 
 -- the answer to a line
-unfoldable pub turn : ImageData → Bool → At → List ℕ → Turn
-turn image with_it at line = turn_by image with_it at line (word_of line)
+unfoldable pub turn : ImageData → Bool → At → List ℕ → DeskTurn
+turn image with_it at line = turn_by image with_it at line (line_word line)
 
 -- the card in the reader is there
 abbrev pub SideStands : CardSeen → Option Tear → Side → Type 0
-SideStands chip plan (IsOn session ds made) = ChipOn chip session ds plan made
-SideStands chip plan (IsOff kept pending) = ChipOff chip kept pending
+SideStands icc plan (IsOn session ds made) = IccOn icc session ds plan made
+SideStands icc plan (IsOff kept pending) = IccOff icc kept pending
 
-pub record Stands (chip : CardSeen) (plan next : Option Tear) (at : At) : Type 0 where
+pub record DeskStands (icc : CardSeen) (plan next : Option Tear) (at : At) : Type 0 where
   pub plan_is : at.plan ≡ plan
   pub next_is : at.next ≡ next
-  pub side : SideStands chip plan at.side
+  pub side : SideStands icc plan at.side
 
 -- both are plans
 pub record ArePlans (plan next : Option Tear) : Type 0 where
@@ -142,25 +144,35 @@ pub record ArePlans (plan next : Option Tear) : Type 0 where
   pub later : IsTrue (is_plan next)
 
 -- a tear that is asked for can be planned
-abbrev pub IsAsked : Word → Type 0
-IsAsked Power = Unit {0}
-IsAsked Off = Unit {0}
-IsAsked (Command command) = Unit {0}
-IsAsked (Pull tear) = IsTrue (is_plan (Some tear))
-IsAsked Other = Unit {0}
+abbrev pub CanBePlanned : Word → Type 0
+CanBePlanned Power = Unit {0}
+CanBePlanned Off = Unit {0}
+CanBePlanned (Command command) = Unit {0}
+CanBePlanned (Pull tear) = IsTrue (is_plan (Some tear))
+CanBePlanned Other = Unit {0}
 
 -- this was answered, and the card stands where the turn leaves it
-pub record IsTurn (chip : CardSeen) (plan next : Option Tear) (text : List ℕ) (turn : Turn) : Type 0 where
+pub record IsTurn (icc : CardSeen) (plan next : Option Tear) (text : List ℕ) (turn : DeskTurn) : Type 0 where
   pub answer_is : text ≡ turn.answer
-  pub stands : Stands chip plan next turn.after
+  pub stands : DeskStands icc plan next turn.after
 
--- a line and its answer
-pub record Said : Type 0 where
-  pub line : List ℕ
-  pub answer : List ℕ
+-- lines that were answered one after the other; behind each another may follow
+pub data CardTalked (image : ImageData) (from : At) : List Turn → At → Type 0 where
+  begins : CardTalked image from [] from
+  goes : (turns : List Turn) (at : At) (line : List ℕ) (with_it : Bool) → CardTalked image from turns at
+      → CardTalked image from (turns ++ record { line = line; answer = (turn image with_it at line).answer; onward = Rests } ∷ []) (turn image with_it at line).after
 
--- lines that were answered one after the other
-pub data Talked (image : ImageData) (from : At) : List Said → At → Type 0 where
-  begins : Talked image from [] from
-  goes : (said : List Said) (at : At) (line : List ℕ) (with_it : Bool) → Talked image from said at
-      → Talked image from (said ++ record { line = line; answer = (turn image with_it at line).answer } ∷ []) (turn image with_it at line).after
+-- lines and answers are a talk of a card of this image, from the day that it was made
+abbrev pub IsCardTalk : ImageData → List Turn → Type 0
+IsCardTalk image turns = (at : At) × CardTalked image desk_at_first turns at
+
+-- a card that has answered these lines so stands in the reader
+pub record HasAnswered (icc : CardSeen) (plan next : Option Tear) (turns : List Turn) : Type 0 where
+  pub at : At
+  pub talked : CardTalked icc.image desk_at_first turns at
+  pub stands : DeskStands icc plan next at
+  pub plans : ArePlans plan next
+
+-- it says nothing before the first line
+abbrev pub card_opening : Opening
+card_opening = record { text = []; onward = Rests }

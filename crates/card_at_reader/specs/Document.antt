@@ -11,7 +11,7 @@ use Rattle.scenario.specs.Seen.{image_there, seen_cards}
 use Rattle.scenario.specs.declared.plan.NamedCard.{NamedCard}
 use Rattle.scenario_fields.specs.Fault.{◌>>=◌, Gives}
 use Rattle.scenario_fields.specs.Fields.{only}
-use Rattle.scenario_fields.specs.Place.{at_top}
+use Rattle.scenario_fields.specs.TablePaths.{at_top}
 use Rattle.scenario_fields.specs.declared.fault.ScenarioFault.{ScenarioFault}
 use Rattle.scenario_fields.specs.declared.fault.ScenarioFault.TheVariants.{Toml}
 
@@ -23,13 +23,13 @@ cards_of ms = do
   _ ← only at_top top_keys ms
   Ok cards
 
-abbrev pub of_document : Option Members → Result (List CardData) ScenarioFault
-of_document None = Err Toml
-of_document (Some ms) = cards_of ms
+abbrev pub cards_of_document : Option Members → Result (List CardData) ScenarioFault
+cards_of_document None = Err Toml
+cards_of_document (Some ms) = cards_of ms
 
 -- what the bytes give
-pub record IsReading (bytes : List ℕ) (result : Result (List NamedCard) ScenarioFault) : Type 0 where
-  pub text : IsUtf8 bytes → Gives seen_cards result (of_document (parse_document bytes))
+pub record ReadsCards (bytes : List ℕ) (result : Result (List NamedCard) ScenarioFault) : Type 0 where
+  pub text : IsUtf8 bytes → Gives seen_cards result (cards_of_document (parse_document bytes))
   pub other : (IsUtf8 bytes → ⊥) → Gives seen_cards result (Err Toml)
 
 -- a card of this name, or any where none is said

@@ -6,9 +6,9 @@ use Rattle.emv_ports.specs.declared.tear.TearAt.{TearAt}
 use Rattle.emv_ports.specs.declared.tear.TearAt.TheVariants.{Before, Within, Release}
 use Rattle.hex.specs.Hex.{decode_of}
 use Rattle.hex.specs.declared.error.FromHexError.{FromHexError}
-use Rattle.report_lines.specs.Pieces.{split_word}
-use Rattle.reader_lines.specs.Given.{behind}
-use Rattle.reader_lines.specs.Numbers.{number_of}
+use Rattle.report_lines.specs.Parts.{split_word}
+use Rattle.line_talk.specs.Preamble.{behind}
+use Rattle.line_talk.specs.Numbers.{digits_up_to}
 use Rattle.card_at_reader.specs.declared.word.Word.{Word}
 use Rattle.card_at_reader.specs.declared.word.Word.TheVariants.{Power, Off, Command, Pull, Other}
 
@@ -18,44 +18,44 @@ from_one None = None
 from_one (Some n) = if n == 0 then None else Some n
 
 abbrev pub write_in : List ℕ → Option ℕ
-write_in digits = from_one (number_of 255 digits)
+write_in digits = from_one (digits_up_to 255 digits)
 
 abbrev pub if_behind : {A : Type 0} → Option (List ℕ) → (List ℕ → A) → A → A
 if_behind None found other = other
 if_behind (Some rest) found other = found rest
 
 -- the place in a commit
-abbrev pub place_in : List ℕ → Option TearAt
-place_in text =
+abbrev pub tear_place_in : List ℕ → Option TearAt
+tear_place_in text =
     if bytes_eq text (codes "release") then Some Release
     else if_behind (behind (codes "before ") text) (λ digits. option_map Before (write_in digits))
     (if_behind (behind (codes "within ") text) (λ digits. option_map Within (write_in digits)) None)
 
-abbrev pub tear_at : Option ℕ → Option TearAt → Option Tear
-tear_at None place = None
-tear_at (Some commit) None = None
-tear_at (Some commit) (Some at) = Some (record { commit = commit; at = at })
+abbrev pub tear_of_parts : Option ℕ → Option TearAt → Option Tear
+tear_of_parts None place = None
+tear_of_parts (Some commit) None = None
+tear_of_parts (Some commit) (Some at) = Some (record { commit = commit; at = at })
 
 -- `C before N`, `C within N` or `C release`
-unfoldable pub tear_in : List ℕ → Option Tear
-tear_in text = tear_at (number_of 255 (split_word text).0) (place_in (split_word text).1)
+unfoldable pub tear_in_line : List ℕ → Option Tear
+tear_in_line text = tear_of_parts (digits_up_to 255 (split_word text).0) (tear_place_in (split_word text).1)
 
 abbrev pub pull_of : Option Tear → Word
 pull_of None = Other
 pull_of (Some tear) = Pull tear
 
 -- a command of 1 to 261 bytes
-abbrev pub command_of : List ℕ → Word
-command_of bytes = if length bytes == 0 || nat_lt 261 (length bytes) then Other else Command (record { items = bytes })
+abbrev pub command_word : List ℕ → Word
+command_word bytes = if length bytes == 0 || nat_lt 261 (length bytes) then Other else Command (record { items = bytes })
 
 -- one in hexadecimal
 abbrev pub command_in : Result (List ℕ) FromHexError → Word
 command_in (Err fault) = Other
-command_in (Ok bytes) = command_of bytes
+command_in (Ok bytes) = command_word bytes
 
 -- what a line asks
-unfoldable pub word_of : List ℕ → Word
-word_of line =
+unfoldable pub line_word : List ℕ → Word
+line_word line =
     if bytes_eq line (codes "power") then Power
     else if bytes_eq line (codes "off") then Off
-    else if_behind (behind (codes "pull ") line) (λ text. pull_of (tear_in text)) (command_in (decode_of line))
+    else if_behind (behind (codes "pull ") line) (λ text. pull_of (tear_in_line text)) (command_in (decode_of line))

@@ -1,7 +1,7 @@
 //! A card in a reader, and what it answers to each line.
 ghost use Rattle.std.specs.Prelude.{◌≡◌, ◌≤◌, ◌++◌, ◌∷◌, [], ℕ, List, Bool, true, None, Some, false, length, codes, IsTrue, IfOk, OnOk};
 ghost use Rattle.std.specs.declared.option.Option.{Option};
-ghost use Rattle.card_app.specs.SeenChip.{ChipOff, ChipOn, IsChipOff, is_on as has_power};
+ghost use Rattle.card_app.specs.SeenIcc.{IccOff, IccOn, IsIccOff, icc_is_powered as has_power};
 ghost use Rattle.card_app.specs.Session.{Exchange};
 ghost use Rattle.card_pages.specs.Cuts.{cut_of};
 ghost use Rattle.card_app.specs.Answering.{card_answer};
@@ -11,16 +11,17 @@ ghost use Rattle.emv_ports.specs.Cut.{is_plan};
 ghost use Rattle.emv_ports.specs.declared.tear.Tear.{Tear as Plan};
 ghost use Rattle.report_text.specs.Text.{all_shown};
 ghost use Rattle.card_at_reader.specs.Desk as spec;
-ghost use Rattle.card_at_reader.specs.Desk.{ArePlans, At, IsAsked, IsTurn, Side, SideStands, Stands, at_of};
+ghost use Rattle.card_at_reader.specs.Desk.{ArePlans, At, HasAnswered, IsCardTalk, CanBePlanned, IsTurn, Side, SideStands, DeskStands, at_of, card_opening};
 
 use crate::word::{Word, word_of};
 use apdu_core::Answer;
 use arrayvec::ArrayVec;
-use card_app::Chip;
+use card_app::Icc;
 use card_counters::shown_all;
 use card_files::Image;
 use card_state::CardState;
 use emv_ports::{Gone, Pages, Tear};
+use line_talk::{LineText, Onward, Party};
 use report_text::pieces::{append, hex_or_dash};
 use report_text::{Line, Text, write_line};
 use std::alloc::{AllocError, Global};
@@ -29,7 +30,7 @@ use std::alloc::{AllocError, Global};
 /// next power-up.
 #[derive(Drop)]
 pub struct Desk<'i, P: Pages> {
-    pub chip: Chip<'i, P>,
+    pub icc: Icc<'i, P>,
     pub plan: Option<Tear>,
     pub next: Option<Tear>,
 }
@@ -38,12 +39,12 @@ pub struct Desk<'i, P: Pages> {
 pub fn put_in<'i, P: Pages>(image: &'i Image, pages: P) -> Desk<'i, P>
     requires off { (P.memory pages).on ≡ false }
     requires plan { (P.memory pages).plan ≡ None }
-    ensures stands { Stands result.chip result.plan result.next (spec.new_card) }
+    ensures stands { DeskStands result.icc result.plan result.next (spec.desk_at_first) }
     ensures plans { ArePlans result.plan result.next }
-    ensures image { result.chip.image ≡ image.now }
+    ensures image { result.icc.image ≡ image.now }
 {
     Desk {
-        chip: Chip::new(image, pages),
+        icc: Icc::new(image, pages),
         plan: None,
         next: None,
     }
@@ -86,18 +87,18 @@ fn plan_of(plan: Option<Tear>, next: Option<Tear>) -> Option<Tear>
 
 /// Turns a card on that is off.
 fn turn_on<P: Pages>(desk: &mut Desk<'_, P>, out: &mut Text)
-    requires off { IsChipOff desk.old.chip }
+    requires off { IsIccOff desk.old.icc }
     requires plans { ArePlans desk.old.plan desk.old.next }
-    ensures turn { (kept : List Decided) (pending : Option Decided) → ChipOff desk.old.chip kept pending
-        → (with_it : Bool) × IsTurn desk.new.chip desk.new.plan desk.new.next out.new.items
-        (spec.powered desk.old.chip.image with_it (spec.plan_of desk.old.plan desk.old.next) kept pending) }
+    ensures turn { (kept : List Decided) (pending : Option Decided) → IccOff desk.old.icc kept pending
+        → (with_it : Bool) × IsTurn desk.new.icc desk.new.plan desk.new.next out.new.items
+        (spec.desk_powered desk.old.icc.image with_it (spec.plan_of desk.old.plan desk.old.next) kept pending) }
     ensures plans { ArePlans desk.new.plan desk.new.next }
-    ensures image { desk.new.chip.image ≡ desk.old.chip.image }
+    ensures image { desk.new.icc.image ≡ desk.old.icc.image }
 {
     desk.plan = plan_of(desk.plan, desk.next);
     desk.next = None;
-    match desk.chip.power_up(desk.plan) {
-        Ok(()) => tell_power(desk.chip.image(), desk.chip.totals(), out),
+    match desk.icc.power_up(desk.plan) {
+        Ok(()) => tell_power(desk.icc.image(), desk.icc.totals(), out),
         Err(Gone) => {
             desk.plan = None;
             tell(out, b"power torn\n");
@@ -107,17 +108,17 @@ fn turn_on<P: Pages>(desk: &mut Desk<'_, P>, out: &mut Text)
 
 /// Turns a card off, where it is on.
 fn turn_off<P: Pages>(desk: &mut Desk<'_, P>)
-    requires stands { (side : Side) × SideStands desk.old.chip desk.old.plan side }
-    ensures stands { (side : Side) → SideStands desk.old.chip desk.old.plan side
-        → SideStands desk.new.chip desk.new.plan (spec.off_side side) }
-    ensures off { IsChipOff desk.new.chip }
+    requires stands { (side : Side) × SideStands desk.old.icc desk.old.plan side }
+    ensures stands { (side : Side) → SideStands desk.old.icc desk.old.plan side
+        → SideStands desk.new.icc desk.new.plan (spec.off_side side) }
+    ensures off { IsIccOff desk.new.icc }
     ensures plans { (desk.new.plan ≡ desk.old.plan) × (desk.new.next ≡ desk.old.next) }
-    ensures image { desk.new.chip.image ≡ desk.old.chip.image }
+    ensures image { desk.new.icc.image ≡ desk.old.icc.image }
 {
-    if !desk.chip.is_on() {
+    if !desk.icc.is_on() {
         return;
     }
-    desk.chip.power_off();
+    desk.icc.power_off();
 }
 
 /// The line of an answer.
@@ -132,17 +133,17 @@ fn tell_answer(answer: &[u8], out: &mut Text)
 
 /// Gives a command to a card that is on.
 fn command_on<P: Pages>(desk: &mut Desk<'_, P>, command: &[u8], out: &mut Text)
-    requires on { has_power desk.old.chip ≡ true }
+    requires on { has_power desk.old.icc ≡ true }
     requires plans { ArePlans desk.old.plan desk.old.next }
-    ensures turn { (session : List Exchange) (ds : List Decided) (made : ℕ) → ChipOn desk.old.chip session ds desk.old.plan made
-        → IsTurn desk.new.chip desk.new.plan desk.new.next out.new.items
-        (spec.commanded desk.old.chip.image session ds made desk.old.plan desk.old.next command.now
-        (cut_of desk.old.plan made (card_answer desk.old.chip.image ds session command.now).new)) }
+    ensures turn { (session : List Exchange) (ds : List Decided) (made : ℕ) → IccOn desk.old.icc session ds desk.old.plan made
+        → IsTurn desk.new.icc desk.new.plan desk.new.next out.new.items
+        (spec.commanded desk.old.icc.image session ds made desk.old.plan desk.old.next command.now
+        (cut_of desk.old.plan made (card_answer desk.old.icc.image ds session command.now).new)) }
     ensures plans { ArePlans desk.new.plan desk.new.next }
-    ensures image { desk.new.chip.image ≡ desk.old.chip.image }
+    ensures image { desk.new.icc.image ≡ desk.old.icc.image }
 {
     let mut answer = Answer::new();
-    match desk.chip.process(command, &mut answer) {
+    match desk.icc.process(command, &mut answer) {
         Ok(()) => tell_answer(answer.as_slice(), out),
         Err(Gone) => {
             desk.plan = None;
@@ -154,12 +155,12 @@ fn command_on<P: Pages>(desk: &mut Desk<'_, P>, command: &[u8], out: &mut Text)
 /// Gives a card a command.
 fn give<P: Pages>(desk: &mut Desk<'_, P>, command: &[u8], out: &mut Text)
     requires plans { ArePlans desk.old.plan desk.old.next }
-    ensures turn { (side : Side) → SideStands desk.old.chip desk.old.plan side
-        → IsTurn desk.new.chip desk.new.plan desk.new.next out.new.items (spec.command_turn desk.old.chip.image (at_of side desk.old.plan desk.old.next) command.now side) }
+    ensures turn { (side : Side) → SideStands desk.old.icc desk.old.plan side
+        → IsTurn desk.new.icc desk.new.plan desk.new.next out.new.items (spec.command_turn desk.old.icc.image (at_of side desk.old.plan desk.old.next) command.now side) }
     ensures plans { ArePlans desk.new.plan desk.new.next }
-    ensures image { desk.new.chip.image ≡ desk.old.chip.image }
+    ensures image { desk.new.icc.image ≡ desk.old.icc.image }
 {
-    if !desk.chip.is_on() {
+    if !desk.icc.is_on() {
         return tell(out, b"?\n");
     }
     command_on(desk, command, out);
@@ -170,10 +171,10 @@ fn plan_tear<P: Pages>(desk: &mut Desk<'_, P>, tear: Tear, line: &[u8], out: &mu
     requires plans { ArePlans desk.old.plan desk.old.next }
     requires tear { IsTrue (is_plan (Some tear)) }
     requires short { length line.now ≤ 8191 }
-    ensures turn { (side : Side) → SideStands desk.old.chip desk.old.plan side
-        → IsTurn desk.new.chip desk.new.plan desk.new.next out.new.items (spec.pull_turn (at_of side desk.old.plan desk.old.next) line.now tear) }
+    ensures turn { (side : Side) → SideStands desk.old.icc desk.old.plan side
+        → IsTurn desk.new.icc desk.new.plan desk.new.next out.new.items (spec.pull_turn (at_of side desk.old.plan desk.old.next) line.now tear) }
     ensures plans { ArePlans desk.new.plan desk.new.next }
-    ensures image { desk.new.chip.image ≡ desk.old.chip.image }
+    ensures image { desk.new.icc.image ≡ desk.old.icc.image }
 {
     desk.next = Some(tear);
     tell(out, line);
@@ -182,13 +183,13 @@ fn plan_tear<P: Pages>(desk: &mut Desk<'_, P>, tear: Tear, line: &[u8], out: &mu
 
 /// Turns a card off, where it is on, and on.
 fn power<P: Pages>(desk: &mut Desk<'_, P>, out: &mut Text)
-    requires stands { (side : Side) × SideStands desk.old.chip desk.old.plan side }
+    requires stands { (side : Side) × SideStands desk.old.icc desk.old.plan side }
     requires plans { ArePlans desk.old.plan desk.old.next }
-    ensures turn { (side : Side) → SideStands desk.old.chip desk.old.plan side
-        → (with_it : Bool) × IsTurn desk.new.chip desk.new.plan desk.new.next out.new.items
-        (spec.power_turn desk.old.chip.image with_it (spec.plan_of desk.old.plan desk.old.next) side) }
+    ensures turn { (side : Side) → SideStands desk.old.icc desk.old.plan side
+        → (with_it : Bool) × IsTurn desk.new.icc desk.new.plan desk.new.next out.new.items
+        (spec.power_turn desk.old.icc.image with_it (spec.plan_of desk.old.plan desk.old.next) side) }
     ensures plans { ArePlans desk.new.plan desk.new.next }
-    ensures image { desk.new.chip.image ≡ desk.old.chip.image }
+    ensures image { desk.new.icc.image ≡ desk.old.icc.image }
 {
     turn_off(desk);
     turn_on(desk, out);
@@ -196,15 +197,15 @@ fn power<P: Pages>(desk: &mut Desk<'_, P>, out: &mut Text)
 
 /// Answers what a line asks.
 fn answer_word<P: Pages>(desk: &mut Desk<'_, P>, word: Word, line: &[u8], out: &mut Text)
-    requires stands { (side : Side) × SideStands desk.old.chip desk.old.plan side }
+    requires stands { (side : Side) × SideStands desk.old.icc desk.old.plan side }
     requires plans { ArePlans desk.old.plan desk.old.next }
-    requires tear { IsAsked word }
+    requires tear { CanBePlanned word }
     requires short { length line.now ≤ 8191 }
-    ensures turn { (side : Side) → SideStands desk.old.chip desk.old.plan side
-        → (with_it : Bool) × IsTurn desk.new.chip desk.new.plan desk.new.next out.new.items
-        (spec.turn_by desk.old.chip.image with_it (at_of side desk.old.plan desk.old.next) line.now word) }
+    ensures turn { (side : Side) → SideStands desk.old.icc desk.old.plan side
+        → (with_it : Bool) × IsTurn desk.new.icc desk.new.plan desk.new.next out.new.items
+        (spec.turn_by desk.old.icc.image with_it (at_of side desk.old.plan desk.old.next) line.now word) }
     ensures plans { ArePlans desk.new.plan desk.new.next }
-    ensures image { desk.new.chip.image ≡ desk.old.chip.image }
+    ensures image { desk.new.icc.image ≡ desk.old.icc.image }
 {
     match word {
         Word::Power => power(desk, out),
@@ -225,13 +226,13 @@ pub fn answer_line<P: Pages>(
     line: &[u8],
     out: &mut Text,
 ) -> Result<(), AllocError>
-    requires stands { (at : At) × Stands desk.old.chip desk.old.plan desk.old.next at }
+    requires stands { (at : At) × DeskStands desk.old.icc desk.old.plan desk.old.next at }
     requires plans { ArePlans desk.old.plan desk.old.next }
     requires short { length line.now ≤ 8191 }
-    ensures turn { OnOk result ((at : At) → Stands desk.old.chip desk.old.plan desk.old.next at
-        → (with_it : Bool) × IsTurn desk.new.chip desk.new.plan desk.new.next out.new.items (spec.turn desk.old.chip.image with_it at line.now)) }
+    ensures turn { OnOk result ((at : At) → DeskStands desk.old.icc desk.old.plan desk.old.next at
+        → (with_it : Bool) × IsTurn desk.new.icc desk.new.plan desk.new.next out.new.items (spec.turn desk.old.icc.image with_it at line.now)) }
     ensures plans { ArePlans desk.new.plan desk.new.next }
-    ensures image { desk.new.chip.image ≡ desk.old.chip.image }
+    ensures image { desk.new.icc.image ≡ desk.old.icc.image }
 {
     match word_of(alloc, line) {
         Ok(word) => {
@@ -240,4 +241,31 @@ pub fn answer_line<P: Pages>(
         }
         Err(AllocError) => Err(AllocError),
     }
+}
+
+impl<P: Pages> Party for Desk<'_, P> {
+    ghost opening = { λ desk. card_opening };
+
+    ghost stands = { λ desk turns. HasAnswered desk.icc desk.plan desk.next turns };
+
+    ghost talks = { λ desk turns. IsCardTalk desk.icc.image turns };
+
+    fn open(&mut self, text: &mut LineText) -> Onward {
+        text.clear();
+        Onward::Rests
+    }
+
+    fn answer(
+        &mut self,
+        alloc: Global,
+        line: &[u8],
+        text: &mut LineText,
+    ) -> Result<Onward, AllocError> {
+        match answer_line(alloc, self, line, text) {
+            Ok(()) => Ok(Onward::Rests),
+            Err(AllocError) => Err(AllocError),
+        }
+    }
+
+    ghost told = { λ desk turns stands. (stands.at, stands.talked) };
 }

@@ -5,8 +5,8 @@ ghost use Rattle.scenario.specs.Seen.{seen_cards};
 ghost use Rattle.scenario.specs.Scenario.{top_keys};
 ghost use Rattle.scenario_fields.specs.Fault.{Gives};
 ghost use Rattle.scenario_fields.specs.Fields.{only};
-ghost use Rattle.scenario_fields.specs.Place.{path};
-ghost use Rattle.card_at_reader.specs.Document.{cards_of, image_in, IsReading};
+ghost use Rattle.scenario_fields.specs.TablePaths.{path};
+ghost use Rattle.card_at_reader.specs.Document.{cards_of, image_in, ReadsCards};
 ghost use Rattle.card_at_reader.specs.Document as spec;
 ghost use Rattle.std.specs.Result.{result_map_both};
 
@@ -14,7 +14,7 @@ use card_files::Image;
 use scenario::NamedCard;
 use scenario::card::cards_at;
 use scenario::issuer::issuer_at;
-use scenario_fields::{Fields, Place, ScenarioFault};
+use scenario_fields::{Fields, ScenarioFault, TablePlace};
 use std::alloc::Global;
 use toml::Table;
 
@@ -32,7 +32,7 @@ fn cards_in(alloc: Global, document: &Table) -> Result<Vec<NamedCard>, ScenarioF
 {
     let fields = Fields {
         alloc,
-        place: Place::Top,
+        place: TablePlace::Top,
         table: document,
     };
     let issuer = issuer_at(&fields)?;
@@ -45,7 +45,7 @@ fn cards_in(alloc: Global, document: &Table) -> Result<Vec<NamedCard>, ScenarioF
 /// the keys `issuer` and `card` in this order, and a key that no scenario has. The other tables of a scenario may be
 /// there, and are not read.
 pub fn read_cards(alloc: Global, bytes: &[u8]) -> Result<Vec<NamedCard>, ScenarioFault>
-    ensures { IsReading bytes.now (result_map_both (λ cards. cards.items) (λ fault. fault) result) }
+    ensures { ReadsCards bytes.now (result_map_both (λ cards. cards.items) (λ fault. fault) result) }
 {
     match toml::table_from_slice(alloc, bytes) {
         Ok(document) => cards_in(alloc, &document),

@@ -4,22 +4,22 @@
 
 mod desk;
 mod document;
-mod talk;
 #[cfg(test)]
 mod tests;
 mod top;
 mod word;
 
 use emv_ports::{Held, MemoryPages, StdinSource, StdoutSink};
+use line_talk::Status;
 use std::process::ExitCode;
 use std::{env, io};
 use top::run;
 
 /// Answers the lines for the card that the command line names, or for the first one. Where there is no memory for the
-/// words or the pages, or the words are no text, the status is 5.
+/// words or the pages, the status is 5; where the words are no text, 2.
 fn main(rt: HostRuntime) -> ExitCode {
     let Ok(pages) = Held::new(rt.alloc(), MemoryPages::blank()) else {
-        return ExitCode::from(5);
+        return ExitCode::from(Status::OutOfMemory.code());
     };
     let mut source = StdinSource::new(rt.reader());
     let mut sink = StdoutSink::new(io::writer(&rt));
@@ -28,11 +28,18 @@ fn main(rt: HostRuntime) -> ExitCode {
         Ok(given) => {
             for word in given.skip(1) {
                 if words.push(word).is_err() {
-                    return ExitCode::from(5);
+                    return ExitCode::from(Status::OutOfMemory.code());
                 }
             }
         }
-        Err(_) => return ExitCode::from(5),
+        Err(error) => {
+            let status = if error.kind() == io::ErrorKind::OutOfMemory {
+                Status::OutOfMemory
+            } else {
+                Status::Unserved
+            };
+            return ExitCode::from(status.code());
+        }
     }
-    ExitCode::from(run(rt.alloc(), &words, pages, &mut source, &mut sink))
+    ExitCode::from(run(rt.alloc(), &words, pages, &mut source, &mut sink).code())
 }

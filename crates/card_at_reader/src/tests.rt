@@ -71,7 +71,7 @@ fn run_of(
     let bytes = text.as_bytes().to_vec(alloc)?;
     let mut source = MemorySource::slow(bytes, fails.0.to_vec(alloc)?, 5);
     let mut sink = MemorySink::new(alloc, 10_000, fails.1.to_vec(alloc)?)?;
-    let status = run(alloc, &list, pages, &mut source, &mut sink);
+    let status = run(alloc, &list, pages, &mut source, &mut sink).code();
     Ok((status, sink.bytes().to_vec(alloc)?))
 }
 
@@ -278,6 +278,7 @@ fn a_card_goes_by_its_name(rt: HostRuntime) -> Result<(), Fail> {
         (["c2"].as_slice(), 2, "?\n"),
         (["c3"].as_slice(), 2, "?\n"),
         ([""].as_slice(), 2, "?\n"),
+        (["c1", "c2"].as_slice(), 2, "?\n"),
     ] {
         let (found, told) = run_of(alloc, words, text, (&[], &[]))?;
         assert_eq!(rt; found, status);

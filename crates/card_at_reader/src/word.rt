@@ -2,14 +2,14 @@
 ghost use Rattle.std.specs.Prelude.{◌≡◌, ◌≤◌, IfOk, IfSome, IsTrue};
 ghost use Rattle.hex.specs.Hex.{decode_of};
 ghost use Rattle.emv_ports.specs.Cut.{is_place};
-ghost use Rattle.card_at_reader.specs.Desk.{IsAsked};
+ghost use Rattle.card_at_reader.specs.Desk.{CanBePlanned};
 ghost use Rattle.card_at_reader.specs.Words as spec;
 
 use arrayvec::ArrayVec;
 use ber_tlv::append;
 use emv_ports::{Tear, TearAt};
 use hex::FromHexError;
-use reader_lines::number_of;
+use line_talk::number_of;
 use report_lines::split_word;
 use std::alloc::{AllocError, Global};
 
@@ -50,7 +50,7 @@ fn write_in(digits: &[u8]) -> Option<u8>
 
 /// The place in a commit.
 fn place_in(text: &[u8]) -> Option<TearAt>
-    ensures exact { result ≡ spec.place_in text.now }
+    ensures exact { result ≡ spec.tear_place_in text.now }
     ensures place { IfSome result (λ at. IsTrue (is_place at)) }
 {
     if text == b"release".as_slice() {
@@ -66,9 +66,9 @@ fn place_in(text: &[u8]) -> Option<TearAt>
 }
 
 /// The tear that `C before N`, `C within N` or `C release` plans, C from 0 and N from 1 to 255.
-#[tactic(auto, unfolding(crate::specs::Words::tear_in))]
+#[tactic(auto, unfolding(crate::specs::Words::tear_in_line))]
 fn tear_in(text: &[u8]) -> Option<Tear>
-    ensures exact { result ≡ spec.tear_in text.now }
+    ensures exact { result ≡ spec.tear_in_line text.now }
     ensures place { IfSome result (λ tear. IsTrue (is_place tear.at)) }
 {
     let (commit, place) = split_word(text);
@@ -82,8 +82,8 @@ fn tear_in(text: &[u8]) -> Option<Tear>
 
 /// A command of 1 to 261 bytes.
 fn command_of(bytes: &[u8]) -> Word
-    ensures exact { result ≡ spec.command_of bytes.now }
-    ensures asked { IsAsked result }
+    ensures exact { result ≡ spec.command_word bytes.now }
+    ensures asked { CanBePlanned result }
 {
     if bytes.is_empty() || bytes.len() > MOST_COMMAND {
         return Word::Other;
@@ -96,7 +96,7 @@ fn command_of(bytes: &[u8]) -> Word
 /// The command that a text spells in hexadecimal.
 fn command_in(alloc: Global, text: &[u8]) -> Result<Word, AllocError>
     ensures exact { IfOk result (λ word. word ≡ spec.command_in (decode_of text.now)) }
-    ensures asked { IfOk result IsAsked }
+    ensures asked { IfOk result CanBePlanned }
 {
     match hex::decode(alloc, text) {
         Ok(bytes) => Ok(command_of(&bytes)),
@@ -107,8 +107,8 @@ fn command_in(alloc: Global, text: &[u8]) -> Result<Word, AllocError>
 
 /// What a `pull` asks.
 fn pull_in(text: &[u8]) -> Word
-    ensures exact { result ≡ spec.pull_of (spec.tear_in text.now) }
-    ensures asked { IsAsked result }
+    ensures exact { result ≡ spec.pull_of (spec.tear_in_line text.now) }
+    ensures asked { CanBePlanned result }
 {
     match tear_in(text) {
         Some(tear) => Word::Pull(tear),
@@ -117,10 +117,10 @@ fn pull_in(text: &[u8]) -> Word
 }
 
 /// What a line asks.
-#[tactic(auto, unfolding(crate::specs::Words::word_of))]
+#[tactic(auto, unfolding(crate::specs::Words::line_word))]
 pub fn word_of(alloc: Global, line: &[u8]) -> Result<Word, AllocError>
-    ensures exact { IfOk result (λ word. word ≡ spec.word_of line.now) }
-    ensures asked { IfOk result IsAsked }
+    ensures exact { IfOk result (λ word. word ≡ spec.line_word line.now) }
+    ensures asked { IfOk result CanBePlanned }
 {
     if line == b"power".as_slice() {
         return Ok(Word::Power);

@@ -2,7 +2,7 @@
 use Rattle.std.proofs.Common.{◌≡◌, ℕ, ◌+◌, ◌<◌, List, [], ◌∷◌, ◌++◌, length, drop, get_or, map, slice_get, Option, Some, None, option_map, refl, ap, sym, ◌∙◌, append_assoc, subst, arith}
 use Rattle.std.proofs.lemmas.List.{drop_more, length-map}
 use Rattle.std.proofs.lemmas.Option.{slice_get-map, slice_get_read}
-use Rattle.card_check.specs.Verdicts.{line_text, line_with, lines_text, lane_text, lanes_text}
+use Rattle.card_check.specs.Verdicts.{verdict_line_text, verdict_line_with, lines_text, lane_text, lanes_text}
 use Rattle.emv_dict.specs.Views.{SettingsData}
 use Rattle.scenario.specs.Cards.{CardData}
 use Rattle.scenario.specs.Seen.{seen_card, seen_cards}
@@ -23,16 +23,16 @@ moved before line later whole out all is = ap (λ (text : List ℕ). text ++ lat
 
 more_lines : (cards : List CardData) (settings : SettingsData) (lane : ℕ) (purchases : List Planned) (i : ℕ) (planned : Planned) (card : CardData) (before out whole : List ℕ)
     → i < length purchases → planned ≡ get_or purchases i planned → slice_get cards planned.card ≡ Some card
-    → before ++ lines_text cards settings lane (i + 1) (drop i purchases) ≡ whole → out ≡ before ++ line_text settings lane (i + 1) planned card
+    → before ++ lines_text cards settings lane (i + 1) (drop i purchases) ≡ whole → out ≡ before ++ verdict_line_text settings lane (i + 1) planned card
     → out ++ lines_text cards settings lane ((i + 1) + 1) (drop (i + 1) purchases) ≡ whole
 more_lines cards settings lane purchases i planned card before out whole below is there all grown =
     let later : List Planned = drop (i + 1) purchases in
     let first : drop i purchases ≡ planned ∷ later =
     drop_more purchases i planned below ∙ ap (λ (p : Planned). p ∷ drop (i + 1) purchases) (sym is) in
-    let text : lines_text cards settings lane (i + 1) (drop i purchases) ≡ line_text settings lane (i + 1) planned card ++ lines_text cards settings lane ((i + 1) + 1) later =
+    let text : lines_text cards settings lane (i + 1) (drop i purchases) ≡ verdict_line_text settings lane (i + 1) planned card ++ lines_text cards settings lane ((i + 1) + 1) later =
     ap (lines_text cards settings lane (i + 1)) first
-    ∙ ap (λ (c : Option CardData). line_with settings lane (i + 1) planned c ++ lines_text cards settings lane ((i + 1) + 1) (drop (i + 1) purchases)) there in
-    moved before (line_text settings lane (i + 1) planned card) (lines_text cards settings lane ((i + 1) + 1) later) whole out
+    ∙ ap (λ (c : Option CardData). verdict_line_with settings lane (i + 1) planned c ++ lines_text cards settings lane ((i + 1) + 1) (drop (i + 1) purchases)) there in
+    moved before (verdict_line_text settings lane (i + 1) planned card) (lines_text cards settings lane ((i + 1) + 1) later) whole out
     (ap (λ (t : List ℕ). before ++ t) (sym text) ∙ all) grown
 
 -- in a lane, whose cards are there
@@ -40,7 +40,7 @@ pub lane_more : (cards : List NamedCard) (lane : LaneData) (number : ℕ) (purch
     (before out whole : List ℕ) → HasCards (length cards) lane → purchases ≡ lane.purchases → settings ≡ lane.settings → i < length purchases
     → planned ≡ get_or purchases i planned → card ≡ get_or cards planned.card card
     → before ++ lines_text (seen_cards cards) lane.settings number (i + 1) (drop i lane.purchases) ≡ whole
-    → out ≡ before ++ line_text settings number (i + 1) planned (seen_card card)
+    → out ≡ before ++ verdict_line_text settings number (i + 1) planned (seen_card card)
     → out ++ lines_text (seen_cards cards) lane.settings number ((i + 1) + 1) (drop (i + 1) lane.purchases) ≡ whole
 lane_more cards lane number purchases settings i planned card before out whole has purchases_is settings_is below is card_is all grown =
     let below_too : i < length lane.purchases = omega (arith, below, ap length purchases_is) in
@@ -48,7 +48,7 @@ lane_more cards lane number purchases settings i planned card before out whole h
     let room : planned.card < length cards = subst (λ (p : Planned). p.card < length cards) (sym is_too) (has i planned below_too) in
     more_lines (seen_cards cards) lane.settings number lane.purchases i planned (seen_card card) before out whole below_too is_too
     (card_seen cards planned.card card room card_is) all
-    (grown ∙ ap (λ (s : SettingsData). before ++ line_text s number (i + 1) planned (seen_card card)) settings_is)
+    (grown ∙ ap (λ (s : SettingsData). before ++ verdict_line_text s number (i + 1) planned (seen_card card)) settings_is)
 
 pub more_lanes : (cards : List CardData) (lanes : List LaneData) (i : ℕ) (lane : LaneData) (before out whole : List ℕ)
     → i < length lanes → lane ≡ get_or lanes i lane → before ++ lanes_text cards i (drop i lanes) ≡ whole → out ≡ before ++ lane_text cards i lane

@@ -1,2 +1,5 @@
-pub mod Verdicts
+pub mod Decided
+pub mod Judged
+pub mod Reasons
 pub mod Top
+pub mod Verdicts

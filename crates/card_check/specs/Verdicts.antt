@@ -1,11 +1,11 @@
 -- The lines of a scenario's purchases: whether each one's card, as it was made, is well-formed for it.
 use Rattle.std.specs.Prelude.{ℕ, ◌+◌, List, [], ◌∷◌, ◌++◌, codes, decimal, is_some, if◌then◌else◌, slice_get, Option, Some, None}
 use Rattle.card_files.specs.Files.{opening_of}
-use Rattle.card_validation.specs.Judged.{card_fault, deal_of}
-use Rattle.card_validation.specs.declared.fault.AppFault.{AppFault}
-use Rattle.card_validation.specs.declared.fault.AppFault.TheVariants.{Reading, FirstList, SecondList, Locator}
-use Rattle.card_validation.specs.declared.fault.CardFault.{CardFault}
-use Rattle.card_validation.specs.declared.fault.CardFault.TheVariants.{Blocked, Clash, Unserved, App}
+use Rattle.card_check.specs.Judged.{card_fault, judged_outset}
+use Rattle.card_check.specs.declared.fault.AppFault.{AppFault}
+use Rattle.card_check.specs.declared.fault.AppFault.TheVariants.{Reading, FirstList, SecondList, Locator}
+use Rattle.card_check.specs.declared.fault.CardFault.{CardFault}
+use Rattle.card_check.specs.declared.fault.CardFault.TheVariants.{Blocked, Clash, Unserved, App}
 use Rattle.emv_dict.specs.Views.{SettingsData}
 use Rattle.emv_dict.specs.declared.ending.Cause.{Cause}
 use Rattle.report_text.specs.Pieces.{newline}
@@ -14,7 +14,7 @@ use Rattle.scenario.specs.Cards.{CardData}
 use Rattle.scenario.specs.Plan.{ScenarioData}
 use Rattle.scenario_lanes.specs.Plan.{LaneData}
 use Rattle.scenario_lanes.specs.declared.plan.Planned.{Planned}
-use Rattle.terminal_state.specs.Terminal.{Deal}
+use Rattle.terminal_state.specs.Terminal.{Outset}
 
 -- why reading an application's data stops
 abbrev pub reading_text : Cause → List ℕ
@@ -42,24 +42,24 @@ judged_text None = codes "well-formed" ++ newline
 judged_text (Some fault) = fault_text fault
 
 -- the verdict on a card as it was made; a card of canned answers has no applications to judge
-abbrev pub verdict_text : Deal → CardData → List ℕ
-verdict_text deal card = if is_some card.canned then codes "canned" ++ newline else judged_text (card_fault card.image deal (opening_of card.image))
+abbrev pub verdict_text : Outset → CardData → List ℕ
+verdict_text outset card = if is_some card.canned then codes "canned" ++ newline else judged_text (card_fault card.image outset (opening_of card.image))
 
 -- the line of a purchase: the card's name, the lane, counted from 0, the purchase's number there, from 1, and the verdict
-abbrev pub line_text : SettingsData → ℕ → ℕ → Planned → CardData → List ℕ
-line_text settings lane number planned card =
+abbrev pub verdict_line_text : SettingsData → ℕ → ℕ → Planned → CardData → List ℕ
+verdict_line_text settings lane number planned card =
     card.name ++ ((codes " lane " ++ (decimal lane ++ (codes " purchase " ++ (decimal number ++ codes " "))))
-    ++ verdict_text (deal_of settings planned.purchase) card)
+    ++ verdict_text (judged_outset settings planned.purchase) card)
 
 -- with the card that the purchase names
-abbrev pub line_with : SettingsData → ℕ → ℕ → Planned → Option CardData → List ℕ
-line_with settings lane number planned None = []
-line_with settings lane number planned (Some card) = line_text settings lane number planned card
+abbrev pub verdict_line_with : SettingsData → ℕ → ℕ → Planned → Option CardData → List ℕ
+verdict_line_with settings lane number planned None = []
+verdict_line_with settings lane number planned (Some card) = verdict_line_text settings lane number planned card
 
 abbrev pub lines_text : List CardData → SettingsData → ℕ → ℕ → List Planned → List ℕ
 lines_text cards settings lane number [] = []
 lines_text cards settings lane number (planned ∷ later) =
-    line_with settings lane number planned (slice_get cards planned.card) ++ lines_text cards settings lane (number + 1) later
+    verdict_line_with settings lane number planned (slice_get cards planned.card) ++ lines_text cards settings lane (number + 1) later
 
 -- the lines of a lane's purchases
 abbrev pub lane_text : List CardData → ℕ → LaneData → List ℕ

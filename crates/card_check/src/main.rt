@@ -1,8 +1,13 @@
 //! Whether the cards of a scenario are well-formed for its purchases: standard input gives a scenario's document, and
-//! standard output gets a line for each purchase.
+//! standard output gets a line for each purchase. A card that isn't is judged by the first part that it breaks.
 #![tactic(auto)]
 
+mod clashing;
+mod fault;
+mod own;
+mod serving;
 mod top;
+mod validating;
 mod verdicts;
 
 use emv_ports::{StdinSource, StdoutSink};

@@ -1,7 +1,7 @@
 //! The top call.
 ghost use Rattle.std.specs.Prelude.{◌≡◌, ◌≢◌, ◌≤◌, ◌⊎◌, List, ℕ, [], IfOk};
 ghost use Rattle.std.specs.Io.KnownBytes.{Appends};
-ghost use Rattle.card_check.specs.Top.{usage_line, AreVerdicts, IsRefusal, IsAnswer, Answers};
+ghost use Rattle.card_check.specs.Top.{card_check_usage, AreVerdicts, IsRefusal, IsAnswer, CardCheckAnswers};
 ghost use Rattle.emv_ports.specs.Causes.{Rose};
 ghost use Rattle.emv_ports.specs.Growth.{AppendsFront};
 
@@ -60,21 +60,21 @@ fn answer<K: Sink>(alloc: Global, bytes: &[u8], sink: &mut K) -> u8
 
 /// Judges the cards of a scenario: the source gives its document, and the sink gets a line for each purchase. Any word is
 /// one too many. Gives the exit status.
-#[tactic(auto, unfolding(crate::specs::Top::usage_line))]
+#[tactic(auto, unfolding(crate::specs::Top::card_check_usage))]
 pub fn run<S: Source, K: Sink>(alloc: Global, words: &[String], source: &mut S, sink: &mut K) -> u8
     // 0: the document is a scenario, and the sink got the lines of its purchases.
-    ensures done { result ≡ 0 → Answers AreVerdicts Appends (S.left source.old) (S.left source.new) (K.held sink.old) (K.held sink.new) }
+    ensures done { result ≡ 0 → CardCheckAnswers AreVerdicts Appends (S.left source.old) (S.left source.new) (K.held sink.old) (K.held sink.new) }
     // 1: it is refused, and the sink got the line of that very fault.
-    ensures refused { result ≡ 1 → Answers IsRefusal Appends (S.left source.old) (S.left source.new) (K.held sink.old) (K.held sink.new) }
+    ensures refused { result ≡ 1 → CardCheckAnswers IsRefusal Appends (S.left source.old) (S.left source.new) (K.held sink.old) (K.held sink.new) }
     // 2: there are words, and the sink got the usage line.
-    ensures usage { result ≡ 2 → (words.now ≢ []) × Appends (K.held sink.old) (K.held sink.new) usage_line }
+    ensures usage { result ≡ 2 → (words.now ≢ []) × Appends (K.held sink.old) (K.held sink.new) card_check_usage }
     ensures unread { words.now ≢ [] → source.new ≡ source.old }
     ensures worded { words.now ≢ [] → (result ≡ 2) ⊎ (result ≡ 4) }
     // 3: the source failed, 4: the sink failed, 5: there was no memory. But for 4 nothing was written.
     ensures unwritten { (result ≡ 3) ⊎ (result ≡ 5) → K.held sink.new ≡ K.held sink.old }
-    ensures usage_front { result ≡ 4 → words.now ≢ [] → AppendsFront (K.held sink.old) (K.held sink.new) usage_line }
+    ensures usage_front { result ≡ 4 → words.now ≢ [] → AppendsFront (K.held sink.old) (K.held sink.new) card_check_usage }
     ensures front { result ≡ 4 → words.now ≡ []
-        → Answers IsAnswer AppendsFront (S.left source.old) (S.left source.new) (K.held sink.old) (K.held sink.new) }
+        → CardCheckAnswers IsAnswer AppendsFront (S.left source.old) (S.left source.new) (K.held sink.old) (K.held sink.new) }
     ensures read_fault { result ≡ 3 → Rose (S.faults source.old) (S.faults source.new) }
     ensures write_fault { result ≡ 4 → Rose (K.faults sink.old) (K.faults sink.new) }
     ensures source_calm { result ≢ 3 → S.faults source.new ≡ S.faults source.old }

@@ -1,15 +1,16 @@
 //! The lines of a scenario's purchases.
 ghost use Rattle.std.specs.Prelude.{◌≡◌, ◌++◌, length, IfOk, OnOk};
 ghost use Rattle.card_check.specs.Verdicts as spec;
-ghost use Rattle.card_validation.specs.Judged.{card_fault, deal_of};
+ghost use Rattle.card_check.specs.Judged.{card_fault, judged_outset};
 ghost use Rattle.card_files.specs.Files.{opening_of};
 ghost use Rattle.scenario.specs.Seen.{seen_card, seen_cards};
 ghost use Rattle.scenario_lanes.specs.Plan.{HasCards};
 ghost use Rattle.std.specs.List.{All};
 
+use crate::fault::{AppFault, CardFault};
+use crate::validating::validate;
 use card_files::Image;
 use card_state::CardState;
-use card_validation::{AppFault, CardFault, validate};
 use emv_dict::{Cause, Ending, Purchase, Settings, Step};
 use report_text::{Line, Text, write_line};
 use scenario::{CardKind, NamedCard, Scenario};
@@ -81,7 +82,7 @@ fn push_judged(
     purchase: &Purchase,
     out: &mut Vec<u8>,
 ) -> Result<(), AllocError>
-    ensures { OnOk result (out.new.items ≡ out.old.items ++ spec.judged_text (card_fault image.now (deal_of settings.now purchase.now) (opening_of image.now))) }
+    ensures { OnOk result (out.new.items ≡ out.old.items ++ spec.judged_text (card_fault image.now (judged_outset settings.now purchase.now) (opening_of image.now))) }
 {
     let mut state = CardState::default();
     image.opening(&mut state);
@@ -100,7 +101,7 @@ fn push_verdict(
     purchase: &Purchase,
     out: &mut Vec<u8>,
 ) -> Result<(), AllocError>
-    ensures { OnOk result (out.new.items ≡ out.old.items ++ spec.verdict_text (deal_of settings.now purchase.now) (seen_card card.now)) }
+    ensures { OnOk result (out.new.items ≡ out.old.items ++ spec.verdict_text (judged_outset settings.now purchase.now) (seen_card card.now)) }
 {
     match &card.kind {
         CardKind::App(image) => push_judged(alloc, image, settings, purchase, out),
@@ -118,7 +119,7 @@ fn push_line(
     planned: &Planned,
     out: &mut Vec<u8>,
 ) -> Result<(), AllocError>
-    ensures { OnOk result (out.new.items ≡ out.old.items ++ spec.line_text settings.now place.lane place.number planned.now (seen_card card.now)) }
+    ensures { OnOk result (out.new.items ≡ out.old.items ++ spec.verdict_line_text settings.now place.lane place.number planned.now (seen_card card.now)) }
 {
     let Place { lane, number } = place;
     let head = format!(in alloc; " lane {lane} purchase {number} ")?;

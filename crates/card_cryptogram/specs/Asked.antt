@@ -28,7 +28,7 @@ abbrev pub has_issuer_auth : List ℕ → Bool
 has_issuer_auth aip = slice_index aip 0 / 4 % 2 == 1
 
 -- a request to go online
-abbrev pub is_online : Kind → Bool
-is_online Arqc = true
-is_online Tc = false
-is_online Aac = false
+abbrev pub is_arqc : Kind → Bool
+is_arqc Arqc = true
+is_arqc Tc = false
+is_arqc Aac = false

@@ -10,7 +10,7 @@ use Rattle.card_state.specs.declared.state.AppState.{AppState}
 use Rattle.emv_dict.specs.Kinds.{kind_byte, kind_of}
 use Rattle.emv_dict.specs.declared.ending.Kind.{Kind}
 use Rattle.card_cryptogram.specs.Fields.{covered}
-use Rattle.card_cryptogram.specs.declared.fields.Given.{Given}
+use Rattle.card_cryptogram.specs.declared.fields.TerminalFields.{TerminalFields}
 
 -- the issuer application data of a state: its form, the kind, the flags, the count of offline approvals, the
 -- tries, and its end
@@ -35,7 +35,7 @@ body_in format kind counter cryptogram iad =
     if format == 1 then body_one kind counter cryptogram iad else body_two kind counter cryptogram iad
 
 -- the cryptogram of a kind under the card's key, over what was given and the issuer application data of a state
-unfoldable pub cryptogram_of : List ℕ → List ℕ → AppState → Kind → Given → List ℕ
+unfoldable pub cryptogram_of : List ℕ → List ℕ → AppState → Kind → TerminalFields → List ℕ
 cryptogram_of key aip state kind given =
     ac_of (session_ac_of key state.counter) (covered given aip state.counter) (iad_of kind state)
 
@@ -44,7 +44,7 @@ abbrev pub body_with : ℕ → AppState → Kind → List ℕ → List ℕ
 body_with format state kind cryptogram = body_in format kind state.counter cryptogram (iad_of kind state)
 
 -- the body of the answer, with the state after the decision for the kind
-unfoldable pub body_of : ℕ → List ℕ → List ℕ → AppState → Kind → Given → List ℕ
+unfoldable pub body_of : ℕ → List ℕ → List ℕ → AppState → Kind → TerminalFields → List ℕ
 body_of format key aip state kind given = body_with format state kind (cryptogram_of key aip state kind given)
 
 -- the places of the cryptogram information data, in both formats, and of the cryptogram

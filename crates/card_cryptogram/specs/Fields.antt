@@ -3,20 +3,20 @@
 use Rattle.std.specs.Prelude.{ℕ, List, [], ◌∷◌, take, drop, replicate, slice_index, Option, Some, None}
 use Rattle.std.specs.Int.{to_be_bytes, w16}
 use Rattle.app_cryptogram.specs.declared.fields.AcFields.{AcFields}
-use Rattle.object_lists.specs.DolEntries.{DolEntry, place_of}
-use Rattle.card_cryptogram.specs.declared.fields.Given.{Given}
+use Rattle.object_lists.specs.DolEntries.{DolEntry, data_place}
+use Rattle.card_cryptogram.specs.declared.fields.TerminalFields.{TerminalFields}
 
 -- the data at a place, where there is one, else other data
-abbrev pub taken : ℕ → List ℕ → List ℕ → Option ℕ → List ℕ
-taken count filled other None = other
-taken count filled other (Some place) = take count (drop place filled)
+abbrev pub data_at_or : ℕ → List ℕ → List ℕ → Option ℕ → List ℕ
+data_at_or count filled other None = other
+data_at_or count filled other (Some place) = take count (drop place filled)
 
 -- the data of the first entry of this tag and length, else other data
 unfoldable pub data_or : ℕ → ℕ → List DolEntry → List ℕ → List ℕ → List ℕ
-data_or tag count dol filled other = taken count filled other (place_of tag count dol)
+data_or tag count dol filled other = data_at_or count filled other (data_place tag count dol)
 
 -- the fields that the list names, and the others as they were given before
-unfoldable pub given_from : List DolEntry → List ℕ → Given → Given
+unfoldable pub given_from : List DolEntry → List ℕ → TerminalFields → TerminalFields
 given_from dol filled before = record {
   amount = data_or 0x9F02 6 dol filled before.amount;
   other = data_or 0x9F03 6 dol filled before.other;
@@ -29,7 +29,7 @@ given_from dol filled before = record {
 }
 
 -- nothing is given before the first cryptogram: zeros
-abbrev pub nothing_given : Given
+abbrev pub nothing_given : TerminalFields
 nothing_given = record {
   amount = replicate 6 0;
   other = replicate 6 0;
@@ -42,7 +42,7 @@ nothing_given = record {
 }
 
 -- the fields of the first cryptogram
-unfoldable pub first_given : List DolEntry → List ℕ → Given
+unfoldable pub first_given : List DolEntry → List ℕ → TerminalFields
 first_given dol filled = given_from dol filled nothing_given
 
 -- the authorisation response code
@@ -50,7 +50,7 @@ unfoldable pub code_given : List DolEntry → List ℕ → List ℕ
 code_given dol filled = data_or 0x8A 2 dol filled (replicate 2 0)
 
 -- what a cryptogram covers: what was given, and the card's interchange profile and transaction counter
-unfoldable pub covered : Given → List ℕ → ℕ → AcFields
+unfoldable pub covered : TerminalFields → List ℕ → ℕ → AcFields
 covered given aip counter = record {
   amount = given.amount;
   other = given.other;

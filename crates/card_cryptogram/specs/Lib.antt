@@ -3,7 +3,7 @@ pub mod Bodies
 pub mod Options
 pub mod Scripts
 pub mod Asked
-pub mod Orders
+pub mod ScriptHeaders
 pub mod Phases
 pub mod Authentication
 pub mod Sales

@@ -5,7 +5,7 @@ use Rattle.card_state.specs.declared.decision.Sale.{Sale}
 use Rattle.card_state.specs.declared.decision.Which.{Which}
 use Rattle.card_state.specs.declared.decision.Which.TheVariants.{One, Two, Neither}
 use Rattle.emv_dict.specs.Bcd.{number_in}
-use Rattle.card_cryptogram.specs.declared.fields.Given.{Given}
+use Rattle.card_cryptogram.specs.declared.fields.TerminalFields.{TerminalFields}
 
 -- in which of a card's currencies: the first, the second where it has one, or none of them
 abbrev pub second_or_neither : Option (List ℕ) → List ℕ → Which
@@ -16,7 +16,7 @@ abbrev pub which_of : List ℕ → Option (List ℕ) → List ℕ → Which
 which_of first second currency = if bytes_eq currency first then One else second_or_neither second currency
 
 -- the amount, as a number and as it was given, the currency and the date
-unfoldable pub sale_of : List ℕ → Option (List ℕ) → Given → Sale
+unfoldable pub sale_of : List ℕ → Option (List ℕ) → TerminalFields → Sale
 sale_of first second given = record {
   amount = number_in given.amount;
   raw = given.amount;

@@ -71,7 +71,7 @@ pub fn is_of_list(dol: &Dol, filled: &[u8]) -> bool
 
 /// The phase behind a first cryptogram.
 pub fn phase_behind(app: u8, kind: Kind, first: First) -> Phase
-    ensures { result ≡ (if spec.is_online kind then Online app first None else Closed app) }
+    ensures { result ≡ (if spec.is_arqc kind then Online app first None else Closed app) }
 {
     match kind {
         Kind::Arqc => Phase::Online {

@@ -5,7 +5,7 @@ ghost use Rattle.ber_tlv.specs.Tag.{is_readable};
 ghost use Rattle.ber_tlv.specs.Written.{written};
 ghost use Rattle.card_cryptogram.specs.Bodies as spec;
 
-use crate::fields::{Given, covered};
+use crate::fields::{TerminalFields, covered};
 use app_cryptogram::ac;
 use arrayvec::ArrayVec;
 use ber_tlv::{Tag, write_item};
@@ -36,7 +36,13 @@ pub fn issuer_data(kind: Kind, state: &AppState) -> [u8; 6]
 /// The application cryptogram of a kind under the card's key (EMV 4.3 Book 2 section 8.1), over what
 /// was given, the interchange profile, the counter and the issuer application data of the state.
 #[tactic(auto, unfolding(crate::specs::Bodies::cryptogram_of))]
-pub fn cryptogram(key: &Key16, aip: [u8; 2], state: &AppState, kind: Kind, given: &Given) -> [u8; 8]
+pub fn cryptogram(
+    key: &Key16,
+    aip: [u8; 2],
+    state: &AppState,
+    kind: Kind,
+    given: &TerminalFields,
+) -> [u8; 8]
     ensures { result ≡ spec.cryptogram_of key.now aip state.now kind given.now }
 {
     let session = session_ac(key, state.counter);

@@ -10,7 +10,7 @@ use object_lists::{Dol, place};
 
 /// What the terminal gives for an application cryptogram (EMV 4.3 Book 2 section 8.1.1).
 #[derive(Clone, Copy, PartialEq, Eq, Debug, Default)]
-pub struct Given {
+pub struct TerminalFields {
     /// Amount, authorised: object 9F02.
     pub amount: [u8; 6],
     /// Amount, other: object 9F03.
@@ -46,12 +46,12 @@ fn field<const N: usize>(dol: &Dol, tag: u32, filled: &[u8], other: [u8; N]) -> 
 /// The fields that the list names, from its data, and the others as they were given before: those of
 /// a second GENERATE AC.
 #[tactic(auto, unfolding(crate::specs::Fields::given_from))]
-pub fn given_from(dol: &Dol, filled: &[u8], before: &Given) -> Given
+pub fn given_from(dol: &Dol, filled: &[u8], before: &TerminalFields) -> TerminalFields
     requires { length filled.now ≡ total_of dol.now }
     ensures { result ≡ spec.given_from dol.now filled.now before.now }
 {
     let trade = field(dol, 0x9c, filled, [before.trade]);
-    Given {
+    TerminalFields {
         amount: field(dol, 0x9f02, filled, before.amount),
         other: field(dol, 0x9f03, filled, before.other),
         country: field(dol, 0x9f1a, filled, before.country),
@@ -65,11 +65,11 @@ pub fn given_from(dol: &Dol, filled: &[u8], before: &Given) -> Given
 
 /// The fields of a first GENERATE AC, from the data of its list.
 #[tactic(auto, unfolding(crate::specs::Fields::first_given))]
-pub fn first_given(dol: &Dol, filled: &[u8]) -> Given
+pub fn first_given(dol: &Dol, filled: &[u8]) -> TerminalFields
     requires { length filled.now ≡ total_of dol.now }
     ensures { result ≡ spec.first_given dol.now filled.now }
 {
-    given_from(dol, filled, &Given::default())
+    given_from(dol, filled, &TerminalFields::default())
 }
 
 /// The authorisation response code, object 8A, from the data of a list; zeros where the list has none.
@@ -83,7 +83,7 @@ pub fn code_given(dol: &Dol, filled: &[u8]) -> [u8; 2]
 
 /// What the cryptogram covers.
 #[tactic(auto, unfolding(crate::specs::Fields::covered))]
-pub(crate) fn covered(given: &Given, aip: [u8; 2], counter: u16) -> AcFields
+pub(crate) fn covered(given: &TerminalFields, aip: [u8; 2], counter: u16) -> AcFields
     ensures { result ≡ spec.covered given.now aip counter }
 {
     AcFields {

@@ -18,10 +18,10 @@ pub use asked::{
     is_record_named, kind_asked, phase_behind,
 };
 pub use bodies::{Body, cryptogram, issuer_data, put, replace, write_body};
-pub use fields::{Given, code_given, first_given, given_from};
+pub use fields::{TerminalFields, code_given, first_given, given_from};
 pub use issuer::{auth_of, authentication, is_authenticated, is_authentication_size, steered_by};
 pub use options::write_options;
-pub use orders::{Order, limit_order, limit_to, pin_order, plain_order, size_of};
+pub use orders::{ScriptCommand, limit_order, limit_to, pin_order, plain_order, size_of};
 pub use phase::{First, Phase};
 pub use sales::sale_of;
 pub use scripts::{block_in, block_of, has_code};

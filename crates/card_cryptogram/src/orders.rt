@@ -2,14 +2,14 @@
 ghost use Rattle.std.specs.Prelude.{◌≡◌, ◌≤◌, length, take};
 ghost use Rattle.std.specs.List.{list_all};
 ghost use Rattle.emv_dict.specs.Bcd.{has_digits as is_digits};
-ghost use Rattle.card_cryptogram.specs.Orders as spec;
+ghost use Rattle.card_cryptogram.specs.ScriptHeaders as spec;
 
 use card_state::Scripted;
 use emv_dict::{amount_of, has_digits};
 
 /// What a script command is, by its instruction and P1 P2.
 #[derive(Clone, Copy, PartialEq, Eq, Debug)]
-pub enum Order {
+pub enum ScriptCommand {
     /// APPLICATION BLOCK, 84 1E 00 00.
     BlockApp,
     /// APPLICATION UNBLOCK, 84 18 00 00.
@@ -27,7 +27,7 @@ pub enum Order {
 }
 
 /// An order whose P1 P2 are zero.
-pub fn plain_order(order: Order, p1: u8, p2: u8) -> Option<Order>
+pub fn plain_order(order: ScriptCommand, p1: u8, p2: u8) -> Option<ScriptCommand>
     ensures { result ≡ spec.plain_order order p1 p2 }
 {
     match (p1, p2) {
@@ -37,37 +37,40 @@ pub fn plain_order(order: Order, p1: u8, p2: u8) -> Option<Order>
 }
 
 /// The order of PIN CHANGE/UNBLOCK with these P1 P2.
-pub fn pin_order(p1: u8, p2: u8) -> Option<Order>
+pub fn pin_order(p1: u8, p2: u8) -> Option<ScriptCommand>
     ensures { result ≡ spec.pin_order p1 p2 }
 {
     match (p1, p2) {
-        (0x00, 0x00) => Some(Order::UnblockPin),
-        (0x00, 0x02) => Some(Order::ChangePin),
+        (0x00, 0x00) => Some(ScriptCommand::UnblockPin),
+        (0x00, 0x02) => Some(ScriptCommand::ChangePin),
         _ => None,
     }
 }
 
 /// The order of PUT DATA with these P1 P2.
-pub fn limit_order(p1: u8, p2: u8) -> Option<Order>
+pub fn limit_order(p1: u8, p2: u8) -> Option<ScriptCommand>
     ensures { result ≡ spec.limit_order p1 p2 }
 {
     match (p1, p2) {
-        (0xdf, 0x01) => Some(Order::LimitCount),
-        (0xdf, 0x02) => Some(Order::LimitSum),
+        (0xdf, 0x01) => Some(ScriptCommand::LimitCount),
+        (0xdf, 0x02) => Some(ScriptCommand::LimitSum),
         _ => None,
     }
 }
 
 /// How many bytes of data an order has, with the code of eight bytes at their end.
-pub fn size_of(order: Order) -> usize
+pub fn size_of(order: ScriptCommand) -> usize
     ensures size { result ≡ spec.size_of order }
     ensures code { 8 ≤ result }
 {
     match order {
-        Order::BlockApp | Order::UnblockApp | Order::BlockCard | Order::UnblockPin => 8,
-        Order::ChangePin => 16,
-        Order::LimitCount => 9,
-        Order::LimitSum => 14,
+        ScriptCommand::BlockApp
+        | ScriptCommand::UnblockApp
+        | ScriptCommand::BlockCard
+        | ScriptCommand::UnblockPin => 8,
+        ScriptCommand::ChangePin => 16,
+        ScriptCommand::LimitCount => 9,
+        ScriptCommand::LimitSum => 14,
     }
 }
 

@@ -2,14 +2,14 @@
 ghost use Rattle.std.specs.Prelude.{◌≡◌};
 ghost use Rattle.card_cryptogram.specs.Phases as spec;
 
-use crate::fields::Given;
+use crate::fields::TerminalFields;
 use card_state::Auth;
 
 /// What of the first cryptogram of a transaction the later commands refer to.
 #[derive(Clone, Copy, PartialEq, Eq, Debug)]
 pub struct First {
     /// What the terminal gave for it.
-    pub given: Given,
+    pub given: TerminalFields,
     /// The cryptogram.
     pub cryptogram: [u8; 8],
 }

@@ -2,7 +2,7 @@
 ghost use Rattle.std.specs.Prelude.{◌≡◌};
 ghost use Rattle.card_cryptogram.specs.Sales as spec;
 
-use crate::fields::Given;
+use crate::fields::TerminalFields;
 use card_state::{Sale, Which};
 use emv_dict::amount_of;
 
@@ -21,7 +21,7 @@ fn which_of(first: [u8; 2], second: Option<[u8; 2]>, currency: [u8; 2]) -> Which
 
 /// The sale that was given for a cryptogram, to a card of these currencies.
 #[tactic(auto, unfolding(crate::specs::Sales::sale_of))]
-pub fn sale_of(first: [u8; 2], second: Option<[u8; 2]>, given: &Given) -> Sale
+pub fn sale_of(first: [u8; 2], second: Option<[u8; 2]>, given: &TerminalFields) -> Sale
     ensures { result ≡ spec.sale_of first second given.now }
 {
     Sale {

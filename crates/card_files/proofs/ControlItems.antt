@@ -5,13 +5,13 @@ use Rattle.std.proofs.lemmas.Bool.{eqb-true}
 use Rattle.std.proofs.lemmas.List.{append-nil, get_or_at}
 use Rattle.std.proofs.lemmas.Option.{slice_get-get_or}
 use Rattle.ber_tlv.specs.Item.{ItemData}
-use Rattle.ber_tlv.specs.Items.{Items, Begins}
+use Rattle.ber_tlv.specs.Items.{Items, HasObjectAt}
 use Rattle.ber_tlv.specs.Tag.{is_readable}
 use Rattle.ber_tlv.specs.Written.{written, tag_bytes, length_bytes}
 use Rattle.ber_tlv.proofs.ReadAgain.{appended_read}
 use Rattle.ber_tlv.proofs.Reading.{Items-left, no_zeros}
-use Rattle.card_files.specs.Control.{Objects, Reads, written_some, object_if, one_byte, log_entry, proprietary, fci_bytes, IsLogEntry, IsFci}
-use Rattle.card_files.specs.Directory.{directory_name, directory_fci, entry_bytes, IsDirectoryFci, IsEntry}
+use Rattle.card_files.specs.Control.{Objects, AreObjects, written_some, object_if, value_of_byte, log_entry, proprietary, fci_bytes, IsLogEntry, IsFci}
+use Rattle.card_files.specs.Directory.{directory_name, directory_fci, directory_record_bytes, IsDirectoryFci, IsDirectoryRecord}
 use Rattle.card_files.specs.Views.{AppData}
 
 -- a tag that a reading can give
@@ -40,15 +40,15 @@ written_begins : (tag : ℕ) (value : List ℕ) (is : IsTag tag) → written tag
 unfolding written
 written_begins tag value is = ap (λ (bs : List ℕ). bs ++ length_bytes (length value) ++ value) is.bytes
 
-begins : (front rest value : List ℕ) (tag : ℕ) → IsTag tag → Begins (front ++ (written tag value ++ rest)) (length front)
+begins : (front rest value : List ℕ) (tag : ℕ) → IsTag tag → HasObjectAt (front ++ (written tag value ++ rest)) (length front)
 begins front rest value tag is =
     let more : List ℕ = is.others ++ length_bytes (length value) ++ value in
     let bytes : List ℕ = front ++ (is.first ∷ more ++ rest) in
     let size : length bytes ≡ length front + length (is.first ∷ more ++ rest) = length-append front (is.first ∷ more ++ rest) in
     let there : slice_get bytes (length front) ≡ Some is.first =
     slice_get-get_or bytes (length front) 0 (omega arith) ∙ ap (λ (b : ℕ). Some b) (get_or_at front is.first (more ++ rest) 0 (length front) refl) in
-    let whole : Begins bytes (length front) = record { byte = is.first; there = there; not_zero = is.not_zero } in
-    subst (λ (bs : List ℕ). Begins (front ++ (bs ++ rest)) (length front)) (sym (written_begins tag value is)) whole
+    let whole : HasObjectAt bytes (length front) = record { byte = is.first; there = there; not_zero = is.not_zero } in
+    subst (λ (bs : List ℕ). HasObjectAt (front ++ (bs ++ rest)) (length front)) (sym (written_begins tag value is)) whole
 
 stand : (bytes front : List ℕ) (objects : Objects) → bytes ≡ front ++ all_written objects → AreTags objects → Items bytes (length front) (items_behind_front front objects)
 stand bytes front [] is tags =
@@ -62,7 +62,7 @@ stand bytes front ((tag, value) ∷ objects) is tags =
       record {
         start = length front;
         zeros = no_zeros bytes (length front) (omega arith);
-        begins = subst (λ (bs : List ℕ). Begins bs (length front)) (sym is) (begins front (all_written objects) value tag tags.0);
+        begins = subst (λ (bs : List ℕ). HasObjectAt bs (length front)) (sym is) (begins front (all_written objects) value tag tags.0);
         stands = rw whole (appended_read front next tag value refl tags.0.readable (all_written objects));
       },
       stand bytes next objects whole tags.1,
@@ -72,7 +72,7 @@ what_stands : (front : List ℕ) (objects : Objects) → map (λ i. (i.tag, i.va
 what_stands front [] = refl
 what_stands front ((tag, value) ∷ objects) = ap (λ (os : Objects). (tag, value) ∷ os) (what_stands (front ++ written tag value) objects)
 
-read_again : (bytes : List ℕ) (objects : Objects) → bytes ≡ all_written objects → AreTags objects → Reads bytes objects
+read_again : (bytes : List ℕ) (objects : Objects) → bytes ≡ all_written objects → AreTags objects → AreObjects bytes objects
 read_again bytes objects is tags =
     (items_behind_front [] objects, Items-left bytes 0 (items_behind_front [] objects) (stand bytes [] objects is tags), what_stands [] objects)
 
@@ -150,8 +150,8 @@ is_fci app bytes is =
           read_again template ((0x84, app.name) ∷ (0xA5, own) ∷ []) (ap (λ (bs : List ℕ). written 0x84 app.name ++ bs) (sym (append-nil (written 0xA5 own))))
           (one_byte_tag 0x84 refl refl (omega arith), (one_byte_tag 0xA5 refl refl (omega arith), tt));
       objects =
-          read_again own (own_objects app.label (one_byte app.priority) app.pdol (log_entry app))
-          (own_written app.label (one_byte app.priority) app.pdol (log_entry app)) (own_tags app.label (one_byte app.priority) app.pdol (log_entry app));
+          read_again own (own_objects app.label (value_of_byte app.priority) app.pdol (log_entry app))
+          (own_written app.label (value_of_byte app.priority) app.pdol (log_entry app)) (own_tags app.label (value_of_byte app.priority) app.pdol (log_entry app));
       log = entry_read app (app.log == 0) refl;
     }
 
@@ -170,10 +170,10 @@ is_directory_fci sfi bytes is =
       objects = read_again own ((0x88, sfi ∷ []) ∷ []) (sym (append-nil own)) (one_byte_tag 0x88 refl refl (omega arith), tt);
     }
 
-pub is_entry : (app : AppData) (bytes : List ℕ) → bytes ≡ entry_bytes app → IsEntry app bytes
-unfolding entry_bytes
+pub is_entry : (app : AppData) (bytes : List ℕ) → bytes ≡ directory_record_bytes app → IsDirectoryRecord app bytes
+unfolding directory_record_bytes
 is_entry app bytes is =
-    let priority : Option (List ℕ) = one_byte app.priority in
+    let priority : Option (List ℕ) = value_of_byte app.priority in
     let entry : List ℕ = written 0x4F app.name ++ written 0x50 app.label ++ written_some 0x87 priority in
     let template : List ℕ = written 0x61 entry in
     record {

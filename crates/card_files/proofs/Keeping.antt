@@ -7,7 +7,7 @@ use Rattle.std.proofs.lemmas.Bool.{true≢false, and_parts, and_from, leb-true, 
 use Rattle.card_files.specs.AppRules.{is_within, is_log_size}
 use Rattle.card_files.specs.Directory.{is_hidden}
 use Rattle.card_files.specs.Faults.{Line, Fault, OfField, OfCount, file_lines, state_lines, log_lines, first_broken, app_fault, field_fault, name_fault, hidden_fault, directory_fault, image_fault}
-use Rattle.card_files.specs.Kept.{KeepsRules, AreApps, AreInSight}
+use Rattle.card_files.specs.ImageRules.{KeepsRules, AreApps, AreInSight}
 use Rattle.card_files.specs.Lists.{leaves_room}
 use Rattle.card_files.specs.Views.{AppData}
 use Rattle.card_files.proofs.OwnNames.{names_apart, no_name}

@@ -11,7 +11,7 @@ use Rattle.card_state.specs.declared.state.AppState.{AppState}
 use Rattle.card_state.specs.declared.state.CardState.{CardState}
 use Rattle.card_files.specs.AppRules.{is_unused}
 use Rattle.card_files.specs.Files.{opening_of}
-use Rattle.card_files.specs.Kept.{KeepsRules, IsImage}
+use Rattle.card_files.specs.ImageRules.{KeepsRules, IsImage}
 use Rattle.card_files.specs.Views.{AppData, ImageData}
 
 state_of : Bool → List AppState → CardState

@@ -6,7 +6,7 @@ use Rattle.std.proofs.lemmas.Bool.{true≢false, and_parts, and_from, or_parts, 
 use Rattle.std.proofs.lemmas.Bool.Decides.{nat_tests}
 use Rattle.std.proofs.lemmas.List.Folds.{list_all-append, list_any-append, list_any_at, Any-from_list_any}
 use Rattle.std.proofs.lemmas.List.{get_or_default}
-use Rattle.card_files.specs.AppRules.{is_record, is_pair, has_twins, most_records, are_apart, are_records}
+use Rattle.card_files.specs.AppRules.{is_record, is_pair, has_twins, most_image_records, are_apart, are_records}
 use Rattle.card_files.specs.Files.{record_in, has_record_of, HasRecord}
 use Rattle.card_files.specs.Views.{RecordData, AppData}
 
@@ -96,7 +96,7 @@ in_app apps a app sfi number bytes at there =
 pub only : (apps : List AppData) (a : AppData) (app sfi number : ℕ) (bytes : List ℕ) → Some a ≡ slice_get apps app → IsTrue (are_records a.records)
     → HasRecord apps app sfi number bytes → record_in sfi number a.records ≡ Some bytes
 only apps a app sfi number bytes at rule there =
-    let parts = and_parts (nat_le (length a.records) most_records) (are_apart a.records) rule in
+    let parts = and_parts (nat_le (length a.records) most_image_records) (are_apart a.records) rule in
     let apart = and_parts (list_all is_record a.records) (not (has_twins a.records)) parts.1 in
     only_one sfi number a.records bytes (not-true (has_twins a.records) apart.1) (in_app apps a app sfi number bytes at there)
 

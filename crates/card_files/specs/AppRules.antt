@@ -50,8 +50,8 @@ abbrev pub has_twins : List RecordData → Bool
 has_twins [] = false
 has_twins (r ∷ rs) = list_any (is_pair r) rs || has_twins rs
 
-abbrev pub most_records : ℕ
-most_records = 64
+abbrev pub most_image_records : ℕ
+most_image_records = 64
 
 -- each in its limits, and no pair twice
 abbrev pub are_apart : List RecordData → Bool
@@ -59,7 +59,7 @@ are_apart rs = list_all is_record rs && not (has_twins rs)
 
 -- and not too many
 abbrev pub are_records : List RecordData → Bool
-are_records rs = nat_le (length rs) most_records && are_apart rs
+are_records rs = nat_le (length rs) most_image_records && are_apart rs
 
 -- the PIN that a block of format 2 spells: the second digit is its size, and its digits stand behind
 abbrev pub spelled_pin : List ℕ → List ℕ

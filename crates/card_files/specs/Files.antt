@@ -21,13 +21,13 @@ record_of apps app sfi number = option_and_then (λ a. record_in sfi number a.re
 abbrev pub HasRecord : List AppData → ℕ → ℕ → ℕ → List ℕ → Type 0
 HasRecord apps app sfi number bytes = IsSomeAnd (slice_get apps app) (λ a. Contains a.records (record { sfi = sfi; number = number; bytes = bytes }))
 
-abbrev pub file_in : ℕ → Option AppData → Bool
-file_in sfi (Some a) = has_record_of sfi a.records
-file_in sfi None = false
+abbrev pub has_file_in : ℕ → Option AppData → Bool
+has_file_in sfi (Some a) = has_record_of sfi a.records
+has_file_in sfi None = false
 
 -- an application has a file of this identifier
 abbrev pub has_file : List AppData → ℕ → ℕ → Bool
-has_file apps app sfi = file_in sfi (slice_get apps app)
+has_file apps app sfi = has_file_in sfi (slice_get apps app)
 
 -- the state of a card before its first decision
 abbrev pub opening_of : ImageData → CardState

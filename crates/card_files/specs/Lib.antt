@@ -3,7 +3,7 @@ pub mod Control
 pub mod Directory
 pub mod Faults
 pub mod Files
-pub mod Kept
+pub mod ImageRules
 pub mod Lists
 pub mod Views
 pub mod SeenFault

@@ -1,7 +1,7 @@
 -- The object lists of an application: how long they are, and which entries they hold.
 use Rattle.std.specs.Prelude.{ℕ, Bool, true, false, ◌==◌, ◌||◌, nat_le, nat_lt, is_some, if◌then◌else◌, List, [], ◌∷◌, length, Option, Some, None, Result, Ok, Err}
 use Rattle.std.specs.List.{list_all}
-use Rattle.object_lists.specs.DolEntries.{DolEntry, dol_of, total_of, place_of}
+use Rattle.object_lists.specs.DolEntries.{DolEntry, dol_of, total_of, data_place}
 use Rattle.object_lists.specs.declared.dol.DolFault.{DolFault}
 
 -- the most bytes of data that an object list may want: what one command carries
@@ -26,7 +26,7 @@ entries_within most bytes = (if nat_le (length bytes) most then fitting (dol_of 
 
 -- an entry of this tag and length is among them
 abbrev pub has_entry : List DolEntry → DolEntry → Bool
-has_entry entries wanted = is_some (place_of wanted.tag wanted.count entries)
+has_entry entries wanted = is_some (data_place wanted.tag wanted.count entries)
 
 abbrev pub has_all : List DolEntry → List DolEntry → Bool
 has_all wanted entries = list_all (has_entry entries) wanted

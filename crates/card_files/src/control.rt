@@ -3,8 +3,8 @@ ghost use Rattle.std.specs.Prelude.{◌≡◌, ◌+◌, ◌<◌, ◌≤◌, [], 
 ghost use Rattle.arrayvec.specs.ArrayVec.{array_vec_len};
 ghost use Rattle.ber_tlv.specs.Tag.{is_readable};
 ghost use Rattle.ber_tlv.specs.Written.{written};
-ghost use Rattle.card_files.specs.Control.{written_some, one_byte, log_entry, proprietary as proprietary_of, fci_bytes};
-ghost use Rattle.card_files.specs.Directory.{directory_fci, entry_bytes};
+ghost use Rattle.card_files.specs.Control.{written_some, value_of_byte, log_entry, proprietary as proprietary_of, fci_bytes};
+ghost use Rattle.card_files.specs.Directory.{directory_fci, directory_record_bytes};
 ghost use Rattle.card_files.specs.Lists.{leaves_room};
 
 use crate::app::AppImage;
@@ -47,7 +47,7 @@ fn put_short<const N: usize>(out: &mut ArrayVec<u8, N>, tag: Tag, value: &[u8])
 /// Appends the application priority indicator, where there is one.
 fn put_priority<const N: usize>(out: &mut ArrayVec<u8, N>, priority: Option<u8>)
     requires { array_vec_len out.old + 3 ≤ N }
-    ensures items { out.new.items ≡ out.old.items ++ written_some 0x87 (one_byte priority) }
+    ensures items { out.new.items ≡ out.old.items ++ written_some 0x87 (value_of_byte priority) }
     ensures len { array_vec_len out.new ≤ array_vec_len out.old + 3 }
 {
     if let Some(priority) = priority {
@@ -149,10 +149,10 @@ pub(crate) fn write_directory_fci(sfi: u8, out: &mut ArrayVec<u8, 256>)
 }
 
 /// Replaces `out` by the directory's record of an application.
-#[tactic(auto, unfolding(crate::specs::Directory::entry_bytes))]
+#[tactic(auto, unfolding(crate::specs::Directory::directory_record_bytes))]
 pub(crate) fn write_entry(app: &AppImage, out: &mut ArrayVec<u8, 256>)
     requires { length app.now.label ≤ 16 }
-    ensures { out.new.items ≡ entry_bytes app.now }
+    ensures { out.new.items ≡ directory_record_bytes app.now }
 {
     let mut entry: ArrayVec<u8, 39> = ArrayVec::new();
     put_short(&mut entry, Tag(0x4f), app.name.as_slice());

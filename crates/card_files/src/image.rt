@@ -6,8 +6,8 @@ ghost use Rattle.card_files.specs.Control.{fci_bytes, IsFci};
 ghost use Rattle.card_files.specs.Faults.{image_fault};
 ghost use Rattle.card_files.specs.Files as spec;
 ghost use Rattle.card_files.specs.Files.{record_of, HasRecord, opening_of};
-ghost use Rattle.card_files.specs.Directory.{directory_named, directory_record, directory_fci as fci_of_directory, IsDirectoryFci, IsEntry};
-ghost use Rattle.card_files.specs.Kept.{KeepsRules, AreApps, IsDirectoryFile, AreInSight, IsImage};
+ghost use Rattle.card_files.specs.Directory.{directory_named, directory_record, directory_fci as fci_of_directory, IsDirectoryFci, IsDirectoryRecord};
+ghost use Rattle.card_files.specs.ImageRules.{KeepsRules, AreApps, IsDirectoryFile, AreInSight, IsImage};
 ghost use Rattle.card_files.specs.SeenFault.{seen_fault};
 
 use crate::app::AppImage;
@@ -30,7 +30,7 @@ pub struct Image {
 
 impl Model for Image {
     ghost use Rattle.card_files.specs.Views.{ImageData};
-    ghost use Rattle.card_files.specs.Kept.{IsImage};
+    ghost use Rattle.card_files.specs.ImageRules.{IsImage};
 
     ghost Value = { ImageData };
 
@@ -90,7 +90,7 @@ impl Image {
 
     /// The short file identifier of the payment system directory, from 1 to 10, where the card has one
     /// (EMV 4.3 Book 1 section 12.2.3).
-    pub fn directory(&self) -> Option<u8>
+    pub fn pse(&self) -> Option<u8>
         ensures directory { result ≡ self.now.directory }
         ensures file { IsDirectoryFile result }
         ensures sight { AreInSight result self.now.apps }
@@ -103,7 +103,7 @@ impl Image {
         ensures { result ≡ directory_named self.now name.now }
     {
         if name == DIRECTORY_NAME.as_slice() {
-            self.directory()
+            self.pse()
         } else {
             None
         }
@@ -160,7 +160,7 @@ impl Image {
         requires { 1 ≤ number }
         ensures there { result ≡ is_some (directory_record self.now.apps number) }
         ensures bytes { IsTrue result → directory_record self.now.apps number ≡ Some out.new.items }
-        ensures read { IsTrue result → IfSome (slice_get self.now.apps (number - 1)) (λ image. IsEntry image out.new.items) }
+        ensures read { IsTrue result → IfSome (slice_get self.now.apps (number - 1)) (λ image. IsDirectoryRecord image out.new.items) }
         ensures none { result ≡ false → out.new.items ≡ out.old.items }
     {
         match self.find(number - 1) {

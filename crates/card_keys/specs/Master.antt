@@ -9,8 +9,8 @@ use Rattle.card_keys.specs.Decimal.{decimalised}
 use Rattle.card_keys.specs.Parity.{odd_parity}
 
 -- the account number's digits, and behind them the two of the sequence number's byte
-abbrev pub numbered : List ℕ → ℕ → List ℕ
-numbered pan sequence = pan ++ sequence / 16 ∷ sequence % 16 ∷ []
+abbrev pub pan_and_sequence : List ℕ → ℕ → List ℕ
+pan_and_sequence pan sequence = pan ++ sequence / 16 ∷ sequence % 16 ∷ []
 
 -- the rightmost sixteen digits, with zeros on the left where there are fewer
 abbrev pub rightmost_sixteen : List ℕ → List ℕ
@@ -22,11 +22,11 @@ even_digits digits = (if length digits % 2 == 1 then 0 ∷ digits else digits)
 
 -- by option A: the rightmost sixteen digits
 unfoldable pub short_diversifier : List ℕ → ℕ → List ℕ
-short_diversifier pan sequence = packed (rightmost_sixteen (numbered pan sequence))
+short_diversifier pan sequence = packed (rightmost_sixteen (pan_and_sequence pan sequence))
 
 -- by option B: sixteen decimal digits of the hash of the digits
 unfoldable pub long_diversifier : List ℕ → ℕ → List ℕ
-long_diversifier pan sequence = decimalised (sha1 (packed (even_digits (numbered pan sequence))))
+long_diversifier pan sequence = decimalised (sha1 (packed (even_digits (pan_and_sequence pan sequence))))
 
 -- Y, the eight bytes that stand for the card
 unfoldable pub diversifier_of : List ℕ → ℕ → List ℕ

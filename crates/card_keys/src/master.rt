@@ -1,7 +1,7 @@
 ghost use Rattle.std.specs.Prelude.{◌≡◌, ◌+◌, ◌<◌, ◌≤◌, ◌/◌, ◌++◌, All, length, map, replicate};
 ghost use Rattle.emv_dict.specs.Digits.{AreDigits};
 ghost use Rattle.card_keys.specs.Parity.{HasOddParity};
-ghost use Rattle.card_keys.specs.Master.{numbered, short_diversifier, long_diversifier, diversifier_of, two_halves, master_key_of};
+ghost use Rattle.card_keys.specs.Master.{pan_and_sequence, short_diversifier, long_diversifier, diversifier_of, two_halves, master_key_of};
 
 use crate::decimal::decimalise;
 use crate::joining::join;
@@ -69,7 +69,7 @@ fn hashed(pan: &[u8], sequence: u8) -> [u8; 8]
 fn behind_zeros(zeros: usize, pan: &[u8], sequence: u8) -> ArrayVec<u8, 37>
     requires most { zeros ≤ 16 }
     requires digits { AreDigits pan.now }
-    ensures value { result.items ≡ replicate zeros 0 ++ numbered pan.now sequence }
+    ensures value { result.items ≡ replicate zeros 0 ++ pan_and_sequence pan.now sequence }
     ensures small { All (λ d. d < 16) result.items }
 {
     let mut digits = ArrayVec::new();

@@ -14,19 +14,9 @@ use Rattle.torn_store.specs.Conversion.{converted}
 use Rattle.torn_store.specs.Layout.{recover}
 use Rattle.torn_store.specs.Recovery.{Holds, Among, Between}
 use Rattle.torn_store.proofs.Outcomes.{has_first, among_within}
-use Rattle.torn_store.proofs.Stored.{holds_among, one_of_two, among_one}
+use Rattle.torn_store.proofs.Stored.{alike, holds_among, one_of_two}
 use Rattle.card_pages.specs.Pages.{Cells, IsFresh, MayStand, found_of, upgraded}
 use Rattle.card_pages.specs.SeenKept.{KeptOn}
-
-either : {A : Type 0} (one other : A) → (one ≡ other) ⊎ (one ≡ other) → one ≡ other
-either one other (inl is) = is
-either one other (inr is) = is
-
--- between a state and the same one
-alike : (cells : Cells) (state : List ℕ) → Between recover cells state state → Holds recover cells state
-alike cells state between =
-    among_one cells state
-    (among_within recover cells (state ∷ state ∷ []) (state ∷ []) (λ one has. (0, lit< tt, sym (either one state (one_of_two state state one has)))) between)
 
 third_at : (a b c state : List ℕ) → (c ≡ a) ⊎ (c ≡ b) → c ≡ state → Contains (a ∷ b ∷ []) state
 third_at a b c state (inl same) is = (0, lit< tt, sym same ∙ is)

@@ -5,10 +5,10 @@ use Rattle.std.proofs.lemmas.List.{append_assoc}
 use Rattle.card_state.specs.Decisions.{Decided}
 use Rattle.card_state.specs.declared.state.CardState.{CardState}
 use Rattle.emv_ports.specs.Causes.{one_more}
-use Rattle.emv_ports.specs.Cut.{is_named}
+use Rattle.emv_ports.specs.Cut.{names_commit}
 use Rattle.emv_ports.specs.Memory.{Memory}
 use Rattle.emv_ports.specs.declared.tear.Tear.{Tear}
-use Rattle.card_pages.specs.Cuts.{Cut, Left, Dropped, Joined, Pending, commit_of, cut_of, behind_one, left_of, kept_by, pending_by}
+use Rattle.card_pages.specs.Cuts.{Cut, Fate, Dropped, Joined, Pending, commit_of, cut_of, behind_one, fate_by, kept_by, pending_by}
 use Rattle.card_pages.specs.Pages.{MayStand}
 use Rattle.card_pages.specs.SeenKept.{KeptState, KeptOn, Took, CutAt}
 
@@ -25,7 +25,7 @@ is_spared false d is = refl
 
 module _ (opening : CardState) (ds : List Decided) (plan : Option Tear) (made : ℕ) (one : Decided) where
   abbrev first_named : Bool
-  first_named = is_named plan (commit_of (made + 1))
+  first_named = names_commit plan (commit_of (made + 1))
 
   -- the first of several is cut
   pub cut_first : (old lost : Memory) (more : List Decided) → CutAt old lost opening ds (one ∷ []) plan made (alone one)
@@ -64,12 +64,12 @@ module _ (opening : CardState) (ds : List Decided) (plan : Option Tear) (made : 
         }
 
     -- what is left of two where the second is cut
-    left_kept : (left : Left) → kept_by left longer (alone other) ≡ kept_by left ds both
+    left_kept : (left : Fate) → kept_by left longer (alone other) ≡ kept_by left ds both
     left_kept Dropped = append-nil longer
     left_kept Joined = ap (λ (xs : List Decided). xs ++ other ∷ []) (append-nil longer)
     left_kept Pending = append-nil longer
 
-    left_pending : (left : Left) → pending_by left (alone other) ≡ pending_by left both
+    left_pending : (left : Fate) → pending_by left (alone other) ≡ pending_by left both
     left_pending Dropped = refl
     left_pending Joined = refl
     left_pending Pending = refl
@@ -85,8 +85,8 @@ module _ (opening : CardState) (ds : List Decided) (plan : Option Tear) (made : 
           left = record {
             gone = record { off = gone.off; plan = gone.plan; losses = gone.losses ∙ ap one_more losses };
             stands = λ version.
-                subst (λ (p : Option Decided). MayStand lost.cells version opening (kept_by (left_of plan) ds both) p) (left_pending (left_of plan))
-                (subst (λ (xs : List Decided). MayStand lost.cells version opening xs (pending_by (left_of plan) (alone other))) (left_kept (left_of plan))
+                subst (λ (p : Option Decided). MayStand lost.cells version opening (kept_by (fate_by plan) ds both) p) (left_pending (fate_by plan))
+                (subst (λ (xs : List Decided). MayStand lost.cells version opening xs (pending_by (fate_by plan) (alone other))) (left_kept (fate_by plan))
                 (at.left.stands version));
           };
         }

@@ -5,12 +5,12 @@ use Rattle.std.specs.Str.{bytes_eq}
 use Rattle.card_state.specs.declared.decision.Decision.TheVariants.{PinTry, PinRight}
 use Rattle.card_state.specs.declared.state.AppState.{AppState}
 use Rattle.card_state.specs.declared.state.CardState.{CardState}
-use Rattle.card_pages.specs.Replies.{ReplyData}
+use Rattle.card_pages.specs.Replies.{CardReplyData}
 use Rattle.card_pages.specs.SeenKept.{MayTake}
 use Rattle.card_pages.specs.declared.comparing.Comparison.{Comparison}
 
 -- a right PIN restores the tries; a wrong one is answered with the tries that are left
-abbrev pub compared : ℕ → ℕ → ℕ → Bool → ReplyData
+abbrev pub compared : ℕ → ℕ → ℕ → Bool → CardReplyData
 compared app limit tries right =
     if right
     then record { new = record { app = app; decision = PinTry } ∷ record { app = app; decision = PinRight limit } ∷ []; body = []; status = 0x9000 }
@@ -24,7 +24,7 @@ has_pin s = not (bytes_eq s.pin (replicate 8 0))
 abbrev pub is_equal : Comparison → Bool
 is_equal k = bytes_eq k.block k.pin
 
-abbrev pub comparison_reply : Comparison → ReplyData
+abbrev pub comparison_reply : Comparison → CardReplyData
 comparison_reply k = compared k.app k.limit k.tries (is_equal k)
 
 -- an application that is there and has a PIN, this one, and so many tries left

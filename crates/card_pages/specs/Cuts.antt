@@ -1,7 +1,7 @@
 -- Which of a card's decisions a planned tear cuts, and what is left of them.
 use Rattle.std.specs.Prelude.{ℕ, ◌+◌, ◌==◌, min, if◌then◌else◌, List, [], ◌∷◌, ◌++◌, Option, Some, None, option_map}
 use Rattle.card_state.specs.Decisions.{Decided}
-use Rattle.emv_ports.specs.Cut.{is_named}
+use Rattle.emv_ports.specs.Cut.{names_commit}
 use Rattle.emv_ports.specs.declared.tear.Tear.{Tear}
 use Rattle.emv_ports.specs.declared.tear.TearAt.{TearAt}
 use Rattle.emv_ports.specs.declared.tear.TearAt.TheVariants.{Before, Within, Release}
@@ -22,31 +22,31 @@ behind_one d at = record { before = d ∷ at.before; cut = at.cut }
 unfoldable pub cut_of : Option Tear → ℕ → List Decided → Option Cut
 cut_of plan made [] = None
 cut_of plan made (d ∷ ds) =
-    if is_named plan (commit_of (made + 1)) then Some (record { before = []; cut = d }) else option_map (behind_one d) (cut_of plan (made + 1) ds)
+    if names_commit plan (commit_of (made + 1)) then Some (record { before = []; cut = d }) else option_map (behind_one d) (cut_of plan (made + 1) ds)
 
 -- what becomes of a cut decision: dropped where the first write was cut before it began, kept where the release
 -- was cut, and pending at every other place
-pub data Left : Type 0 where
-  Dropped : Left
-  Joined : Left
-  Pending : Left
+pub data Fate : Type 0 where
+  Dropped : Fate
+  Joined : Fate
+  Pending : Fate
 
-abbrev pub left_at : TearAt → Left
-left_at (Before number) = if number == 1 then Dropped else Pending
-left_at (Within number) = Pending
-left_at Release = Joined
+abbrev pub fate_at : TearAt → Fate
+fate_at (Before number) = if number == 1 then Dropped else Pending
+fate_at (Within number) = Pending
+fate_at Release = Joined
 
-abbrev pub left_of : Option Tear → Left
-left_of None = Pending
-left_of (Some tear) = left_at tear.at
+abbrev pub fate_by : Option Tear → Fate
+fate_by None = Pending
+fate_by (Some tear) = fate_at tear.at
 
 -- the decisions that are kept, and the pending one
-abbrev pub kept_by : Left → List Decided → Cut → List Decided
+abbrev pub kept_by : Fate → List Decided → Cut → List Decided
 kept_by Dropped ds at = ds ++ at.before
 kept_by Joined ds at = (ds ++ at.before) ++ at.cut ∷ []
 kept_by Pending ds at = ds ++ at.before
 
-abbrev pub pending_by : Left → Cut → Option Decided
+abbrev pub pending_by : Fate → Cut → Option Decided
 pending_by Dropped at = None
 pending_by Joined at = None
 pending_by Pending at = Some at.cut

@@ -1,5 +1,5 @@
 -- Pages that are on with a state, as a contract sees them, and what decisions make of them.
-use Rattle.std.specs.Prelude.{◌≡◌, ℕ, ◌+◌, List, [], ◌∷◌, ◌++◌, length, Option, Some, None, slice_get}
+use Rattle.std.specs.Prelude.{◌≡◌, ℕ, ◌+◌, List, [], ◌∷◌, ◌++◌, length, true, Option, Some, None, slice_get}
 use Rattle.std.specs.Option.{ForSome}
 use Rattle.card_state.specs.Change.{MayDecide}
 use Rattle.card_state.specs.Decisions.{Decided}
@@ -8,8 +8,8 @@ use Rattle.card_state.specs.declared.decision.Decision.{Decision}
 use Rattle.card_state.specs.declared.state.CardState.{CardState}
 use Rattle.emv_ports.specs.Memory.{Memory}
 use Rattle.emv_ports.specs.declared.tear.Tear.{Tear}
-use Rattle.torn_store.specs.Store.{IsGone}
-use Rattle.card_pages.specs.Cuts.{Cut, commit_of, cut_of, left_of, kept_by, pending_by}
+use Rattle.torn_store.specs.Store.{HasLostPower}
+use Rattle.card_pages.specs.Cuts.{Cut, commit_of, cut_of, fate_by, kept_by, pending_by}
 use Rattle.card_pages.specs.Pages.{HoldsTotals, MayStand}
 
 -- pages that are on, and the state that they hold
@@ -27,8 +27,8 @@ pub record KeptOn (seen : KeptState) (opening : CardState) (ds : List Decided) (
 -- the power is gone at a cut decision: what the pages may stand for, whatever the version in which the card was
 -- personalised
 pub record KeptLost (old new : Memory) (opening : CardState) (ds : List Decided) (plan : Option Tear) (at : Cut) : Type 0 where
-  pub gone : IsGone old new
-  pub stands : (version : ℕ) → MayStand new.cells version opening (kept_by (left_of plan) ds at) (pending_by (left_of plan) at)
+  pub gone : HasLostPower old new
+  pub stands : (version : ℕ) → MayStand new.cells version opening (kept_by (fate_by plan) ds at) (pending_by (fate_by plan) at)
 
 -- New decisions are taken: the plan cuts none of them, and the pages stand for the longer list.
 pub record Took (next : KeptState) (opening : CardState) (ds new : List Decided) (plan : Option Tear) (made : ℕ) : Type 0 where
@@ -44,6 +44,12 @@ pub record CutAt (old lost : Memory) (opening : CardState) (ds new : List Decide
   pub cut : cut_of plan made new ≡ Some at
   pub left : KeptLost old lost opening ds plan at
 
+-- behind decisions that were kept: on, as often without power, and with a state for each application still
+pub record StaysOn (old new : KeptState) : Type 0 where
+  pub on : new.memory.on ≡ true
+  pub losses : new.memory.losses ≡ old.memory.losses
+  pub apps : length new.state.apps.items ≡ length old.state.apps.items
+
 -- a single decision is cut
 abbrev pub IsCutAlone : KeptState → Memory → Decided → Type 0
 IsCutAlone old lost d =
@@ -51,8 +57,8 @@ IsCutAlone old lost d =
     → CutAt old.memory lost opening ds (d ∷ []) plan made (record { before = []; cut = d })
 
 -- one of several
-abbrev pub IsCut : KeptState → Memory → List Decided → Type 0
-IsCut old lost new =
+abbrev pub IsDecisionCut : KeptState → Memory → List Decided → Type 0
+IsDecisionCut old lost new =
     (opening : CardState) (ds : List Decided) (plan : Option Tear) (made : ℕ) → KeptOn old opening ds plan made
     → (at : Cut) × CutAt old.memory lost opening ds new plan made at
 

@@ -1,13 +1,12 @@
 //! A PIN that is compared behind the try that it costs.
-ghost use Rattle.std.specs.Prelude.{◌≡◌, ◌+◌, ◌-◌, [], length, Some, true, OnOk, OnErr};
-ghost use Rattle.apdu_core.specs.Response.{response_bytes, response_of};
-ghost use Rattle.torn_store.specs.Store.{IsGone};
+ghost use Rattle.std.specs.Prelude.{◌≡◌, ◌+◌, ◌-◌, [], true, OnOk, OnErr};
+ghost use Rattle.torn_store.specs.Store.{HasLostPower};
 ghost use Rattle.card_pages.specs.Comparing as spec;
 ghost use Rattle.card_pages.specs.Comparing.{MayCompare, comparison_reply, is_equal};
-ghost use Rattle.card_pages.specs.Replies.{said, response_in};
-ghost use Rattle.card_pages.specs.SeenKept.{Takes, IsCut};
+ghost use Rattle.card_pages.specs.Replies.{SaysReply, shows};
+ghost use Rattle.card_pages.specs.SeenKept.{Takes, StaysOn, IsDecisionCut};
 
-use crate::kept::Kept;
+use crate::kept::CardPages;
 use apdu_core::status::NO_ERROR;
 use apdu_core::{Answer, Response, write_response};
 use arrayvec::ArrayVec;
@@ -38,8 +37,7 @@ pub fn has_pin(state: &AppState) -> bool
 
 /// Replaces `out` by the answer of this body, which has at most 256 bytes, and this status.
 pub fn respond(body: &ArrayVec<u8, 256>, status: u16, out: &mut Answer)
-    ensures written { out.new.items ≡ response_bytes body.now.items status }
-    ensures read_again { response_of out.new.items ≡ Some (record { body = body.now.items; status = status }) }
+    ensures { SaysReply (shows body.now.items status) out.new.items }
 {
     let response = Response {
         body: body.as_slice(),
@@ -53,20 +51,17 @@ pub fn respond(body: &ArrayVec<u8, 256>, status: u16, out: &mut Answer)
 ///
 /// `Gone` comes exactly where the plan cuts one of the two decisions; `out` is empty then.
 pub fn compare<P: Pages>(
-    kept: &mut Kept<P>,
+    kept: &mut CardPages<P>,
     with: &Comparison,
     out: &mut Answer,
 ) -> Result<(), Gone>
     requires on { kept.old.memory.on ≡ true }
     requires may { MayCompare kept.old.state with.now }
     ensures takes { OnOk result (Takes kept.old kept.new (comparison_reply with.now).new) }
-    ensures on { OnOk result (kept.new.memory.on ≡ true) }
-    ensures losses { OnOk result (kept.new.memory.losses ≡ kept.old.memory.losses) }
-    ensures apps { OnOk result (length kept.new.state.apps.items ≡ length kept.old.state.apps.items) }
-    ensures said { OnOk result (out.new.items ≡ (said (comparison_reply with.now)).answer) }
-    ensures read_again { OnOk result (response_of out.new.items ≡ Some (response_in (comparison_reply with.now))) }
-    ensures cut { OnErr result (IsCut kept.old kept.new.memory (comparison_reply with.now).new) }
-    ensures gone { OnErr result (IsGone kept.old.memory kept.new.memory) }
+    ensures stays { OnOk result (StaysOn kept.old kept.new) }
+    ensures says { OnOk result (SaysReply (comparison_reply with.now) out.new.items) }
+    ensures cut { OnErr result (IsDecisionCut kept.old kept.new.memory (comparison_reply with.now).new) }
+    ensures gone { OnErr result (HasLostPower kept.old.memory kept.new.memory) }
     ensures silent { OnErr result (out.new.items ≡ []) }
 {
     out.clear();

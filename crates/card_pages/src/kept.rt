@@ -4,29 +4,30 @@ ghost use Rattle.card_state.specs.Decisions.{Decided};
 ghost use Rattle.card_state.specs.Encoding.{HasShortLogs};
 ghost use Rattle.card_state.specs.Totals.{totals};
 ghost use Rattle.card_state.specs.declared.state.CardState.{CardState as State};
-ghost use Rattle.emv_ports.specs.Cut.{is_named, is_plan};
+ghost use Rattle.emv_ports.specs.Cut.{names_commit, is_plan};
 ghost use Rattle.emv_ports.specs.Memory.{planned, powered_off};
 ghost use Rattle.emv_ports.specs.declared.tear.Tear.{Tear as Plan};
 ghost use Rattle.torn_store.specs.Layout.{recover};
 ghost use Rattle.torn_store.specs.Recovery.{Holds};
-ghost use Rattle.torn_store.specs.Store.{IsGone};
+ghost use Rattle.torn_store.specs.Store.{HasLostPower};
+ghost use Rattle.torn_store.specs.Writing.{LostAt};
 ghost use Rattle.card_pages.specs.Pages.{StandsFor, MayStand, found_of, upgraded};
-ghost use Rattle.card_pages.specs.SeenKept.{KeptOn, Takes, IsCutAlone, MayTake};
+ghost use Rattle.card_pages.specs.SeenKept.{KeptOn, Takes, StaysOn, IsCutAlone, MayTake};
 
 use arrayvec::ArrayVec;
 use card_state::{CardState, Decision, apply, decode, decode_one, encode, encode_one, with_limits};
 use emv_ports::{Gone, Pages, Tear};
 use std::marker::Model;
-use torn_store::{Convert, Place};
+use torn_store::{Convert, StorePlace};
 
 /// The place of a card's pages, on or off, and the state that they hold while they are on.
 #[derive(Drop)]
-pub struct Kept<P: Pages> {
-    place: Place<P>,
+pub struct CardPages<P: Pages> {
+    place: StorePlace<P>,
     state: CardState,
 }
 
-impl<P: Pages> Model for Kept<P> {
+impl<P: Pages> Model for CardPages<P> {
     ghost use Rattle.std.specs.Prelude.{◌≡◌, true};
     ghost use Rattle.card_state.specs.Encoding.{encoding, HasShortLogs};
     ghost use Rattle.card_pages.specs.SeenKept.{KeptState};
@@ -90,20 +91,20 @@ fn written<P: Pages>(bytes: &[u8], pages: P) -> P
     ensures plan { (P.memory result).plan ≡ None }
     ensures losses { (P.memory result).losses ≡ (P.memory pages).losses }
 {
-    let mut place = Place::new(pages);
+    let mut place = StorePlace::new(pages);
     place.format(bytes);
     place.power_off();
     place.into_pages()
 }
 
-impl<P: Pages> Kept<P> {
+impl<P: Pages> CardPages<P> {
     /// The place of pages that are off.
-    pub fn new(pages: P) -> Kept<P>
+    pub fn new(pages: P) -> CardPages<P>
         requires { (P.memory pages).on ≡ false }
         ensures { result.memory ≡ P.memory pages }
     {
-        Kept {
-            place: Place::new(pages),
+        CardPages {
+            place: StorePlace::new(pages),
             state: CardState {
                 blocked: false,
                 apps: ArrayVec::new(),
@@ -135,13 +136,12 @@ impl<P: Pages> Kept<P> {
             → MayStand self.old.memory.cells version opening.now kept pending
             → (with_it : Bool) × KeptOn self.new opening.now (found_of kept pending with_it) self.old.memory.plan 0) }
         ensures on { OnOk result (self.new.memory.on ≡ true) }
-        ensures spared { OnOk result (is_named self.old.memory.plan 0 ≡ false) }
+        ensures spared { OnOk result (names_commit self.old.memory.plan 0 ≡ false) }
         ensures losses { OnOk result (self.new.memory.losses ≡ self.old.memory.losses) }
         ensures lost { OnErr result ((version : ℕ) (kept : List Decided) (pending : Option Decided)
             → MayStand self.old.memory.cells version opening.now kept pending
             → MayStand self.new.memory.cells version opening.now kept pending) }
-        ensures cut { OnErr result (is_named self.old.memory.plan 0 ≡ true) }
-        ensures gone { OnErr result (IsGone self.old.memory self.new.memory) }
+        ensures gone { OnErr result (LostAt self.old.memory self.new.memory) }
     {
         let upgrade = Upgrade { opening };
         match self.place.power_up_with(&upgrade) {
@@ -183,11 +183,9 @@ impl<P: Pages> Kept<P> {
         requires in_range { app < length self.old.state.apps.items }
         requires allowed { MayTake self.old.state app decision.now }
         ensures takes { OnOk result (Takes self.old self.new (record { app = app; decision = decision.now } ∷ [])) }
-        ensures on { OnOk result (self.new.memory.on ≡ true) }
-        ensures losses { OnOk result (self.new.memory.losses ≡ self.old.memory.losses) }
-        ensures apps { OnOk result (length self.new.state.apps.items ≡ length self.old.state.apps.items) }
+        ensures stays { OnOk result (StaysOn self.old self.new) }
         ensures cut { OnErr result (IsCutAlone self.old self.new.memory (record { app = app; decision = decision.now })) }
-        ensures gone { OnErr result (IsGone self.old.memory self.new.memory) }
+        ensures gone { OnErr result (HasLostPower self.old.memory self.new.memory) }
     {
         apply(&mut self.state, app, decision);
         let mut bytes = ArrayVec::new();
@@ -217,7 +215,7 @@ impl<P: Pages> Kept<P> {
     pub fn into_pages(self) -> P
         ensures { P.memory result ≡ self.memory }
     {
-        let Kept { place, .. } = self;
+        let CardPages { place, .. } = self;
         place.into_pages()
     }
 }

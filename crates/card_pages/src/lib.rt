@@ -7,4 +7,4 @@ mod comparing;
 mod kept;
 
 pub use comparing::{Comparison, compare, has_pin, respond};
-pub use kept::{Kept, format};
+pub use kept::{CardPages, format};

@@ -4,7 +4,7 @@ use Rattle.std.specs.Prelude.{◌≡◌, ℕ, ◌+◌, ◌≤◌, ◌/◌, ◌==
 use Rattle.std.specs.Str.{bytes_eq}
 use Rattle.emv_dict.specs.declared.ending.Kind.{Kind}
 use Rattle.emv_dict.specs.declared.ending.Kind.TheVariants.{Aac, Tc, Arqc}
-use Rattle.card_state.specs.Change.{IsWithin}
+use Rattle.card_state.specs.Change.{IsWithinLimit}
 use Rattle.card_state.specs.declared.decision.Auth.{Auth}
 use Rattle.card_state.specs.declared.decision.Auth.TheVariants.{Absent, One as MethodOne, Two as MethodTwo}
 use Rattle.card_state.specs.declared.decision.How.{How}
@@ -45,8 +45,8 @@ first_kind Tc state card_blocked which amount =
     if is_blocked state card_blocked then Aac else if approves state which amount then Tc else Arqc
 
 -- the response code "Y3": the terminal was unable to go online and would approve (EMV 4.3 Book 4 Annex A6)
-abbrev pub unable_code : List ℕ
-unable_code = 0x59 ∷ 0x33 ∷ []
+abbrev pub code_y3 : List ℕ
+code_y3 = 0x59 ∷ 0x33 ∷ []
 
 abbrev pub with_how : How → Kind → Kind × How
 with_how how kind = (kind, how)
@@ -65,10 +65,10 @@ online_how MethodOne = ByIssuer
 online_how (MethodTwo status) = (if slice_index status 1 / 128 == 1 then ByIssuer else Held)
 
 -- by method 2 the issuer declines without b8 of the first byte of the card status update
-abbrev pub is_declined : Auth → Bool
-is_declined Absent = false
-is_declined MethodOne = false
-is_declined (MethodTwo status) = not (slice_index status 0 / 128 == 1)
+abbrev pub is_declined_by_status : Auth → Bool
+is_declined_by_status Absent = false
+is_declined_by_status MethodOne = false
+is_declined_by_status (MethodTwo status) = not (slice_index status 0 / 128 == 1)
 
 -- the second cryptogram of a card that is not authenticated and not asked to decide alone: where the
 -- profile has issuer authentication it was due, and the card declines
@@ -79,7 +79,7 @@ unauthenticated issuer_auth = if issuer_auth then Aac else Tc
 abbrev pub approval_of : AppState → Which → ℕ → Auth → List ℕ → Bool → Kind × How
 approval_of state which amount auth code issuer_auth =
     if not (is_absent auth) then with_how (online_how auth) Tc
-    else if bytes_eq code unable_code then with_how Offline (if approves state which amount then Tc else Aac)
+    else if bytes_eq code code_y3 then with_how Offline (if approves state which amount then Tc else Aac)
     else with_how Alone (unauthenticated issuer_auth)
 
 -- the second cryptogram of a card that declines
@@ -92,11 +92,11 @@ unfoldable pub second_kind : Kind → AppState → Bool → Which → ℕ → Au
 second_kind Aac state card_blocked which amount auth code issuer_auth = decline_of auth
 second_kind Arqc state card_blocked which amount auth code issuer_auth = decline_of auth
 second_kind Tc state card_blocked which amount auth code issuer_auth =
-    if is_blocked state card_blocked || is_declined auth then decline_of auth
+    if is_blocked state card_blocked || is_declined_by_status auth then decline_of auth
     else approval_of state which amount auth code issuer_auth
 
 -- the tests of an offline approval in other words
 pub record ApprovesAlone (state : AppState) (which : Which) (amount : ℕ) : Type 0 where
   pub authenticated : state.auth_failed ≡ false
   pub count : state.count + 1 ≤ state.count_limit
-  pub sum : IsWithin state which amount
+  pub sum : IsWithinLimit state which amount

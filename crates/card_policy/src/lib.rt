@@ -5,7 +5,7 @@
 ghost use Rattle.std.specs.Prelude.{◌≡◌, ◌≢◌, ◌↔◌, ◌+◌, ◌≤◌, ◌&&◌, ◌||◌, nat_le, IsTrue, true, false, if◌then◌else◌};
 ghost use Rattle.emv_dict.specs.declared.ending.Kind.TheVariants.{Aac, Tc, Arqc};
 ghost use Rattle.emv_dict.specs.Kinds.{is_above};
-ghost use Rattle.card_state.specs.Change.{IsWithin, MayDecide};
+ghost use Rattle.card_state.specs.Change.{IsWithinLimit, MayDecide};
 ghost use Rattle.card_state.specs.declared.decision.How.TheVariants.{Authenticated as ByIssuer, Held, Offline};
 ghost use Rattle.card_state.specs.declared.decision.Sale.{Sale as SaleOf};
 ghost use Rattle.card_state.specs.declared.decision.Decision.TheVariants.{Started, First, Second};
@@ -95,7 +95,7 @@ pub fn approves(state: &AppState, which: Which, amount: u64) -> bool
 fn is_within_limits(state: &AppState, which: Which, amount: u64) -> bool
     ensures exact { result ≡ spec.is_within_limits state.now which amount }
     ensures limits { IsTrue result
-        ↔ ((state.now.count + 1 ≤ state.now.count_limit) × IsWithin state.now which amount) }
+        ↔ ((state.now.count + 1 ≤ state.now.count_limit) × IsWithinLimit state.now which amount) }
 {
     state.count < state.count_limit && is_sum_within(state, which, amount)
 }
@@ -103,7 +103,7 @@ fn is_within_limits(state: &AppState, which: Which, amount: u64) -> bool
 /// Whether one more offline approval of this amount keeps the sum of its currency within its limit.
 fn is_sum_within(state: &AppState, which: Which, amount: u64) -> bool
     ensures exact { result ≡ spec.is_sum_within state.now which amount }
-    ensures within { IsTrue result ↔ IsWithin state.now which amount }
+    ensures within { IsTrue result ↔ IsWithinLimit state.now which amount }
 {
     match which {
         Which::One => is_within(state.sum, amount, state.sum_limit),
@@ -137,7 +137,7 @@ pub fn second(
     ensures allowed { (sale : SaleOf) → sale.which ≡ which → sale.amount ≡ amount
         → MayDecide state.now (Second result.0 result.1 sale) }
     ensures blocked { IsTrue (card_blocked || state.now.blocked) → result.0 ≡ Aac }
-    ensures declined { spec.is_declined online.auth ≡ true → result.0 ≡ Aac }
+    ensures declined { spec.is_declined_by_status online.auth ≡ true → result.0 ≡ Aac }
     ensures online { is_absent online.auth ≡ false → result.1 ≡ spec.online_how online.auth }
     ensures alone { is_absent online.auth ≡ true → (result.1 ≢ ByIssuer) × (result.1 ≢ Held) }
     ensures approved { result.0 ≡ Tc → result.1 ≡ Offline → ApprovesAlone state.now which amount }
@@ -179,7 +179,7 @@ fn is_absent(auth: Auth) -> bool
 
 /// Whether the issuer declines by its card status update: b8 of the first byte is 0.
 fn is_declined(auth: Auth) -> bool
-    ensures { result ≡ spec.is_declined auth }
+    ensures { result ≡ spec.is_declined_by_status auth }
 {
     match auth {
         Auth::Absent => false,

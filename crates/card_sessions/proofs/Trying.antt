@@ -19,17 +19,17 @@ use Rattle.card_state.specs.declared.state.AppState.{AppState}
 use Rattle.card_state.specs.declared.state.CardState.{CardState}
 use Rattle.card_state.specs.declared.state.LogRow.{LogRow}
 use Rattle.emv_dict.specs.declared.ending.Kind.{Kind}
-use Rattle.card_cryptogram.specs.declared.orders.Order.{Order}
+use Rattle.card_cryptogram.specs.declared.orders.ScriptCommand.{ScriptCommand}
 use Rattle.card_cryptogram.specs.declared.phase.First.{First as FirstData}
 use Rattle.card_cryptogram.specs.declared.phase.Phase.{Phase}
 use Rattle.card_cryptogram.specs.declared.phase.Phase.TheVariants.{Idle, Directory, Selected, Started, Online, Closed, Done}
 use Rattle.card_pages.specs.Comparing.{compared}
-use Rattle.card_pages.specs.Replies.{ReplyData, shows, decides}
-use Rattle.card_app.specs.Answering.{options_in, options_row, verify_in, verify_row, instruction_row, row_or_refusal, reply_in, card_reply}
+use Rattle.card_pages.specs.Replies.{CardReplyData, shows, decides}
+use Rattle.card_app.specs.Answering.{options_in_phase, options_row, verify_in, verify_row, instruction_row, row_or_refusal, answer_in_phase, card_reply}
 use Rattle.card_app.specs.Cryptograms.{first_for, second_for, generate_in, generate_asked, generate_row, authenticate_for, authenticate_in, authenticate_row}
 use Rattle.card_app.specs.Files.{directory_or, selected_reply, record_or, row_or, is_file, record_for, select_row, record_row, data_object, data_for, data_row, shown_for}
 use Rattle.card_app.specs.Options.{options_of}
-use Rattle.card_app.specs.Orders.{carried_out, script_for, script_in, script_row}
+use Rattle.card_app.specs.ScriptCommands.{carried_out, script_for, script_in_phase, script_row}
 use Rattle.card_app.specs.Pin.{verify_of}
 use Rattle.card_app.specs.Replies.{with_both}
 use Rattle.card_app.specs.Session.{phase_of}
@@ -54,7 +54,7 @@ abbrev is_right : Decided → Bool
 is_right d = is_right_pin d.decision
 
 -- a reply that decides a right PIN only behind its try
-record IsTried (r : ReplyData) : Type 0 where
+record IsTried (r : CardReplyData) : Type 0 where
   before : TriesBefore r.new
 
 nothing : (body : List ℕ) (status : ℕ) → IsTried (shows body status)
@@ -96,11 +96,11 @@ compares app limit tries true = record { before = λ n other has. pair app limit
 compares app limit tries false =
     record { before = λ n other has. let never : true ≡ false = one_other (tried app) n other refl has in cc }
 
-either : (test : Bool) (r s : ReplyData) → IsTried r → IsTried s → IsTried (if test then r else s)
+either : (test : Bool) (r s : CardReplyData) → IsTried r → IsTried s → IsTried (if test then r else s)
 either true r s here there = here
 either false r s here there = there
 
-with_app_tried : (a : Option AppData) (s : Option AppState) (reply : AppData → AppState → ReplyData) → ((a : AppData) (s : AppState) → IsTried (reply a s))
+with_app_tried : (a : Option AppData) (s : Option AppState) (reply : AppData → AppState → CardReplyData) → ((a : AppData) (s : AppState) → IsTried (reply a s))
     → IsTried (with_both a s reply)
 with_app_tried (Some a) (Some s) reply each = each a s
 with_app_tried (Some a) None reply each = nothing [] 0x6985
@@ -111,7 +111,7 @@ selected apps state None = nothing [] 0x6A82
 selected apps state (Some app) =
     with_app_tried (slice_get apps app) (slice_get state.apps.items app) shown_for (λ a s. nothing (fci_bytes a) (if s.blocked then 0x6283 else 0x9000))
 
-in_place : (sfi : Option ℕ) (other : ReplyData) → IsTried other → IsTried (directory_or sfi other)
+in_place : (sfi : Option ℕ) (other : CardReplyData) → IsTried other → IsTried (directory_or sfi other)
 in_place None other tried = tried
 in_place (Some sfi) other tried = nothing _ 0x9000
 
@@ -153,7 +153,7 @@ options_for : (blocked : Bool) (app : ℕ) (body : List ℕ) (a : AppData) (s : 
 unfolding options_of
 options_for blocked app body a s = search (either, nothing, one_started) depth 20
 
-options_at : (image : ImageData) (state : CardState) (phase : Phase) (body : List ℕ) → IsTried (options_in image state phase body)
+options_at : (image : ImageData) (state : CardState) (phase : Phase) (body : List ℕ) → IsTried (options_in_phase image state phase body)
 options_at image state (Selected app) body = with_app_tried (slice_get image.apps app) (slice_get state.apps.items app) (options_of state.blocked app body) (options_for state.blocked app body)
 options_at image state Idle body = nothing [] 0x6985
 options_at image state Directory body = nothing [] 0x6985
@@ -233,11 +233,11 @@ carried : (app : ℕ) (scripted : Option Scripted) → IsTried (carried_out app 
 carried app None = nothing [] 0x6985
 carried app (Some scripted) = alone app (Script scripted) [] 0x9000 refl
 
-script_with : (order : Order) (app : ℕ) (first : FirstData) (c : CommandData) (a : AppData) (s : AppState) → IsTried (script_for order app first c a s)
+script_with : (order : ScriptCommand) (app : ℕ) (first : FirstData) (c : CommandData) (a : AppData) (s : AppState) → IsTried (script_for order app first c a s)
 unfolding script_for
 script_with order app first c a s = search (either, nothing, carried) depth 20
 
-script_at : (image : ImageData) (state : CardState) (phase : Phase) (order : Order) (c : CommandData) → IsTried (script_in image state phase order c)
+script_at : (image : ImageData) (state : CardState) (phase : Phase) (order : ScriptCommand) (c : CommandData) → IsTried (script_in_phase image state phase order c)
 script_at image state (Online app first sent) order c = with_app_tried (slice_get image.apps app) (slice_get state.apps.items app) (script_for order app first c) (script_with order app first c)
 script_at image state (Done app first) order c = with_app_tried (slice_get image.apps app) (slice_get state.apps.items app) (script_for order app first c) (script_with order app first c)
 script_at image state Idle order c = nothing [] 0x6985
@@ -246,7 +246,7 @@ script_at image state (Selected app) order c = nothing [] 0x6985
 script_at image state (Started app) order c = nothing [] 0x6985
 script_at image state (Closed app) order c = nothing [] 0x6985
 
-script : (image : ImageData) (state : CardState) (phase : Phase) (order : Option Order) (c : CommandData) → IsTried (script_row image state phase order c)
+script : (image : ImageData) (state : CardState) (phase : Phase) (order : Option ScriptCommand) (c : CommandData) → IsTried (script_row image state phase order c)
 unfolding script_row
 script image state phase None c = nothing [] 0x6A86
 script image state phase (Some order) c = script_at image state phase order c
@@ -260,6 +260,6 @@ replied image state phase None = nothing [] 0x6700
 replied image state phase (Some c) = search (either, instruction, nothing) depth 20
 
 pub tries_first : (image : ImageData) → TriesFirst image
-unfolding card_reply reply_in
+unfolding card_reply answer_in_phase
 tries_first image ds session command =
     (replied image (totals (opening_of image) ds) (phase_of image session) (command_of command)).before

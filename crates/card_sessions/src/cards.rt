@@ -1,12 +1,12 @@
 //! The cards that are tried, and what is sent to them.
 ghost use Rattle.std.specs.Prelude.{◌≡◌, ◌<◌, ◌≤◌, true, OnOk, OnErr};
-ghost use Rattle.card_app.specs.SeenChip.{IsChipOn, IsChipOff, is_on};
-ghost use Rattle.card_files.specs.Kept.{IsDirectoryFile};
+ghost use Rattle.card_app.specs.SeenIcc.{IsIccOn, IsIccOff, icc_is_powered};
+ghost use Rattle.card_files.specs.ImageRules.{IsDirectoryFile};
 
 use crate::send;
 use apdu_core::Answer;
 use arrayvec::ArrayVec;
-use card_app::Chip;
+use card_app::Icc;
 use card_files::{AppImage, Image, RecordImage};
 use card_keys::master_key;
 use card_state::AppState;
@@ -354,24 +354,24 @@ pub(crate) const OPTIONS_AGAIN: Line = "80a8000002830000 6985";
 /// that is cut has none.
 pub(crate) fn go_through<'i, P: Pages>(
     rt: &impl Abort,
-    chip: &mut Chip<'i, P>,
+    icc: &mut Icc<'i, P>,
     session: &[Line],
 ) -> Result<(), Gone>
-    requires card { IsChipOn chip.old }
-    requires runs { is_on chip.old ≡ true }
-    ensures on { OnOk result (IsChipOn chip.new) }
-    ensures runs { OnOk result (is_on chip.new ≡ true) }
-    ensures off { OnErr result (IsChipOff chip.new) }
+    requires card { IsIccOn icc.old }
+    requires runs { icc_is_powered icc.old ≡ true }
+    ensures on { OnOk result (IsIccOn icc.new) }
+    ensures runs { OnOk result (icc_is_powered icc.new ≡ true) }
+    ensures off { OnErr result (IsIccOff icc.new) }
 {
     match session {
         [] => Ok(()),
         [line, rest @ ..] => {
             let (command, answer) = halves_of(line);
             let mut out = Answer::new();
-            match send(chip, bytes_of(command).as_slice(), &mut out) {
+            match send(icc, bytes_of(command).as_slice(), &mut out) {
                 Ok(()) => {
                     assert_eq!(rt; out.as_slice(), bytes_of(answer).as_slice(), "to {command}");
-                    go_through(rt, chip, rest)
+                    go_through(rt, icc, rest)
                 }
                 Err(gone) => {
                     assert!(rt; out.is_empty(), "an answer without the release");

@@ -1,6 +1,6 @@
 //! Laws on how far a card has come, and on what it decides for a PIN.
 ghost use Rattle.card_files.specs.Views.{ImageData};
-ghost use Rattle.card_sessions.specs.Told.{BeginsIdle, IsTold, StaysInDirectory};
+ghost use Rattle.card_sessions.specs.SessionPhase.{BeginsIdle, TellsPhase, StaysInDirectory};
 ghost use Rattle.card_sessions.specs.Tried.{TriesFirst};
 
 /// The phase of a card is what the last SELECT that was answered with file control information, and the
@@ -11,7 +11,7 @@ ghost use Rattle.card_sessions.specs.Tried.{TriesFirst};
 /// AUTHENTICATE counts as sent where it was answered 9000 or 6300.
 pub fn phases_are_told()
     ensures idle { (image : ImageData) → BeginsIdle image }
-    ensures told { (image : ImageData) → IsTold image }
+    ensures told { (image : ImageData) → TellsPhase image }
     ensures directory { (image : ImageData) → StaysInDirectory image }
 {}
 

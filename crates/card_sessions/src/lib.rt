@@ -5,12 +5,12 @@
 ghost use Rattle.std.specs.Prelude.{◌≡◌, true, IfOk, IfErr, OnOk, OnErr, IsTrue};
 ghost use Rattle.emv_ports.specs.Cut.{is_plan};
 ghost use Rattle.card_app.specs.SeenCard.{IsRunning, IsCardOff};
-ghost use Rattle.card_app.specs.SeenChip.{IsChipOn, IsChipOff, is_on};
+ghost use Rattle.card_app.specs.SeenIcc.{IsIccOn, IsIccOff, icc_is_powered};
 
 mod law;
 
 use apdu_core::Answer;
-use card_app::{Card, Chip};
+use card_app::{Card, Icc};
 use card_files::Image;
 use emv_ports::{Gone, Pages, Tear};
 pub use law::{phases_are_told, tries_come_first};
@@ -47,14 +47,14 @@ pub fn turned_off<'i, P: Pages>(card: Card<'i, P>) -> P
 
 /// Turns on a card in its place, under a plan to cut the power once, or none. Behind a loss it is a card
 /// still, off.
-pub fn turn_on<'i, P: Pages>(chip: &mut Chip<'i, P>, tear: Option<Tear>) -> Result<(), Gone>
-    requires card { IsChipOff chip.old }
+pub fn turn_on<'i, P: Pages>(icc: &mut Icc<'i, P>, tear: Option<Tear>) -> Result<(), Gone>
+    requires card { IsIccOff icc.old }
     requires tear { IsTrue (is_plan tear) }
-    ensures on { OnOk result (IsChipOn chip.new) }
-    ensures runs { OnOk result (is_on chip.new ≡ true) }
-    ensures off { OnErr result (IsChipOff chip.new) }
+    ensures on { OnOk result (IsIccOn icc.new) }
+    ensures runs { OnOk result (icc_is_powered icc.new ≡ true) }
+    ensures off { OnErr result (IsIccOff icc.new) }
 {
-    match chip.power_up(tear) {
+    match icc.power_up(tear) {
         Ok(()) => Ok(()),
         Err(gone) => Err(gone),
     }
@@ -62,29 +62,29 @@ pub fn turn_on<'i, P: Pages>(chip: &mut Chip<'i, P>, tear: Option<Tear>) -> Resu
 
 /// Sends a command to a card in its place. It goes on, or is off behind a loss.
 pub fn send<'i, P: Pages>(
-    chip: &mut Chip<'i, P>,
+    icc: &mut Icc<'i, P>,
     command: &[u8],
     out: &mut Answer,
 ) -> Result<(), Gone>
-    requires card { IsChipOn chip.old }
-    requires runs { is_on chip.old ≡ true }
-    ensures on { OnOk result (IsChipOn chip.new) }
-    ensures runs { OnOk result (is_on chip.new ≡ true) }
-    ensures off { OnErr result (IsChipOff chip.new) }
+    requires card { IsIccOn icc.old }
+    requires runs { icc_is_powered icc.old ≡ true }
+    ensures on { OnOk result (IsIccOn icc.new) }
+    ensures runs { OnOk result (icc_is_powered icc.new ≡ true) }
+    ensures off { OnErr result (IsIccOff icc.new) }
 {
-    match chip.process(command, out) {
+    match icc.process(command, out) {
         Ok(()) => Ok(()),
         Err(gone) => Err(gone),
     }
 }
 
 /// Turns off a card in its place.
-pub fn turn_off<'i, P: Pages>(chip: &mut Chip<'i, P>)
-    requires card { IsChipOn chip.old }
-    requires runs { is_on chip.old ≡ true }
-    ensures off { IsChipOff chip.new }
+pub fn turn_off<'i, P: Pages>(icc: &mut Icc<'i, P>)
+    requires card { IsIccOn icc.old }
+    requires runs { icc_is_powered icc.old ≡ true }
+    ensures off { IsIccOff icc.new }
 {
-    chip.power_off();
+    icc.power_off();
 }
 
 #[cfg(test)]

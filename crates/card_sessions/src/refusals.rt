@@ -1,6 +1,6 @@
 //! Commands that are refused, in each phase.
 ghost use Rattle.std.specs.Prelude.{◌≡◌, ◌<◌, length, None, false, true};
-ghost use Rattle.card_app.specs.SeenChip.{IsChipOn, is_on};
+ghost use Rattle.card_app.specs.SeenIcc.{IsIccOn, icc_is_powered};
 
 use crate::cards::{
     APPROVED, AUTHENTICATE, Line, OFFLINE, OPTIONS, REQUEST, SELECT, VERIFY, Variant, bytes_of,
@@ -9,7 +9,7 @@ use crate::cards::{
 use crate::{send, turn_on};
 use apdu_core::Answer;
 use apdu_core::status::CONDITIONS_NOT_SATISFIED;
-use card_app::Chip;
+use card_app::Icc;
 use card_files::Image;
 use emv_ports::{Held, MemoryPages, Pages};
 use std::process::Abort;
@@ -173,16 +173,16 @@ const REFUSALS: [Row; 85] = [
 ];
 
 /// Sends commands that are refused in this phase, which stays.
-fn refuse_all<'i, P: Pages>(rt: &impl Abort, chip: &mut Chip<'i, P>, phase: usize, rows: &[Row])
-    requires card { IsChipOn chip.old }
-    requires runs { is_on chip.old ≡ true }
+fn refuse_all<'i, P: Pages>(rt: &impl Abort, icc: &mut Icc<'i, P>, phase: usize, rows: &[Row])
+    requires card { IsIccOn icc.old }
+    requires runs { icc_is_powered icc.old ≡ true }
     requires phase { phase < 6 }
 {
     match rows {
         [] => {}
         [(command, phases, status), rest @ ..] => {
             let mut out = Answer::new();
-            match send(chip, bytes_of(command).as_slice(), &mut out) {
+            match send(icc, bytes_of(command).as_slice(), &mut out) {
                 Ok(()) => {
                     let status = if phases[phase] {
                         *status
@@ -194,7 +194,7 @@ fn refuse_all<'i, P: Pages>(rt: &impl Abort, chip: &mut Chip<'i, P>, phase: usiz
                         out.as_slice() == wanted.as_slice(),
                         "to {command} in phase {phase}"
                     );
-                    refuse_all(rt, chip, phase, rest)
+                    refuse_all(rt, icc, phase, rest)
                 }
                 Err(_) => panic!(rt; "the power is gone"),
             }
@@ -208,10 +208,10 @@ fn refuse_in<P: Pages>(rt: &impl Abort, image: &Image, pages: P, phase: usize, b
     requires plan { (P.memory pages).plan ≡ None }
     requires phase { phase < 6 }
 {
-    let mut chip = Chip::new(image, pages);
-    match turn_on(&mut chip, None) {
-        Ok(()) => match go_through(rt, &mut chip, before) {
-            Ok(()) => refuse_all(rt, &mut chip, phase, &REFUSALS),
+    let mut icc = Icc::new(image, pages);
+    match turn_on(&mut icc, None) {
+        Ok(()) => match go_through(rt, &mut icc, before) {
+            Ok(()) => refuse_all(rt, &mut icc, phase, &REFUSALS),
             Err(_) => panic!(rt; "the power is gone"),
         },
         Err(_) => panic!(rt; "the power is gone"),

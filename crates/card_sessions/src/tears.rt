@@ -1,14 +1,14 @@
 //! A purchase whose power is cut at each place, and what is found behind it.
 ghost use Rattle.std.specs.Prelude.{◌≡◌, Some, None, false, IsTrue};
 ghost use Rattle.emv_ports.specs.Cut.{is_plan};
-ghost use Rattle.card_app.specs.SeenChip.{IsChipOff};
+ghost use Rattle.card_app.specs.SeenIcc.{IsIccOff};
 
 use crate::cards::{
     APPROVED, AUTHENTICATE, Line, OPTIONS, REQUEST, SELECT, VERIFY, Variant, go_through, image_of,
     opening_of,
 };
 use crate::{turn_off, turn_on};
-use card_app::Chip;
+use card_app::Icc;
 use card_files::Image;
 use card_state::AppState;
 use emv_ports::{Gone, Held, MemoryPages, Pages, Tear, TearAt};
@@ -85,13 +85,13 @@ fn may_be_left(tear: Tear, state: &AppState) -> bool {
 }
 
 /// A purchase that is cut.
-fn purchase_cut<'i, P: Pages>(rt: &impl Abort, chip: &mut Chip<'i, P>, tear: Tear)
-    requires card { IsChipOff chip.old }
+fn purchase_cut<'i, P: Pages>(rt: &impl Abort, icc: &mut Icc<'i, P>, tear: Tear)
+    requires card { IsIccOff icc.old }
     requires tear { IsTrue (is_plan (Some tear)) }
-    ensures off { IsChipOff chip.new }
+    ensures off { IsIccOff icc.new }
 {
-    match turn_on(chip, Some(tear)) {
-        Ok(()) => match go_through(rt, chip, &PURCHASE) {
+    match turn_on(icc, Some(tear)) {
+        Ok(()) => match go_through(rt, icc, &PURCHASE) {
             Ok(()) => panic!(rt; "the plan cuts nothing"),
             Err(Gone) => {}
         },
@@ -100,20 +100,20 @@ fn purchase_cut<'i, P: Pages>(rt: &impl Abort, chip: &mut Chip<'i, P>, tear: Tea
 }
 
 /// The state that a power-up finds, where the plan doesn't cut it.
-fn state_found<'i, P: Pages>(chip: &mut Chip<'i, P>, tear: Option<Tear>) -> Option<AppState>
-    requires card { IsChipOff chip.old }
+fn state_found<'i, P: Pages>(icc: &mut Icc<'i, P>, tear: Option<Tear>) -> Option<AppState>
+    requires card { IsIccOff icc.old }
     requires tear { IsTrue (is_plan tear) }
-    ensures off { IsChipOff chip.new }
+    ensures off { IsIccOff icc.new }
 {
-    match turn_on(chip, tear) {
+    match turn_on(icc, tear) {
         Ok(()) => {
-            let state = chip
+            let state = icc
                 .totals()
                 .apps
                 .as_slice()
                 .first()
                 .map(|state| state.copy());
-            turn_off(chip);
+            turn_off(icc);
             state
         }
         Err(Gone) => None,
@@ -127,11 +127,11 @@ fn try_plans<P: Pages>(rt: &impl Abort, image: &Image, pages: P, first: Tear, ag
     requires first { IsTrue (is_plan (Some first)) }
     requires again { IsTrue (is_plan (Some again)) }
 {
-    let mut chip = Chip::new(image, pages);
-    purchase_cut(rt, &mut chip, first);
-    let then = state_found(&mut chip, Some(again));
+    let mut icc = Icc::new(image, pages);
+    purchase_cut(rt, &mut icc, first);
+    let then = state_found(&mut icc, Some(again));
     assert_eq!(rt; then.is_none(), again.commit == 0, "{first:?}, {again:?}");
-    let last = state_found(&mut chip, None).expect(rt, "a card that is on");
+    let last = state_found(&mut icc, None).expect(rt, "a card that is on");
     assert!(rt; may_be_left(first, &last), "{first:?}, {again:?}");
     if let Some(state) = then {
         assert_eq!(rt; state, last, "{first:?}, {again:?}");

@@ -7,8 +7,8 @@ use Rattle.card_state.specs.declared.decoding.Version.{Version}
 use Rattle.card_state.specs.declared.decoding.Version.TheVariants.{One, Two}
 use Rattle.card_state.specs.declared.state.AppState.{AppState}
 use Rattle.card_state.specs.Encoding.{app_bytes_one, app_bytes, more_bytes, row_bytes, IsAppState}
-use Rattle.card_state.specs.Layout.{as_one, fields_one, fields_of, rows_said, is_flagged, has_rows, begins, with_more, app_in, none_left, apps_in, size_in}
-use Rattle.card_state.proofs.LayoutLemmas.{length-app_bytes_one, length-app_bytes, length-rows, known_flag_byte, known_flags_two, behind_one, fields_one-app_bytes_one, fields_of-app_bytes, app_bytes_one-fields_one, app_bytes-fields_of, rows-fields_of, drop_fits}
+use Rattle.card_state.specs.Layout.{as_one, fields_one, app_fields, rows_said, is_flagged, has_rows, has_app_at, with_more, app_in, none_left, apps_in, size_in}
+use Rattle.card_state.proofs.LayoutLemmas.{length-app_bytes_one, length-app_bytes, length-rows, known_flag_byte, known_flags_two, behind_one, fields_one-app_bytes_one, app_fields-app_bytes, app_bytes_one-fields_one, app_bytes-app_fields, rows-app_fields, drop_fits}
 
 -- the bytes of an application
 abbrev pub app_bytes_in : Version → AppState → List ℕ
@@ -48,13 +48,13 @@ rows_there s behind is =
     (le_true (18 + 14 * length s.log.items) (length (more_bytes s ++ (flat_map row_bytes s.log.items ++ behind))) (omega arith))
 
 -- the bytes of an application begin with it
-begins-app : (v : Version) (s : AppState) (behind : List ℕ) → IsAppState s → begins v (app_bytes_in v s ++ behind) ≡ true
-begins-app One s behind is =
+has_app_at-app : (v : Version) (s : AppState) (behind : List ℕ) → IsAppState s → has_app_at v (app_bytes_in v s ++ behind) ≡ true
+has_app_at-app One s behind is =
     let size : length (app_bytes_one s ++ behind) ≡ length (app_bytes_one s) + length behind = length-append (app_bytes_one s) behind in
     let own : length (app_bytes_one s) ≡ 32 = length-app_bytes_one s is.one.pin.0 in
     both _ _ (le_true 32 (length (app_bytes_one s ++ behind)) (omega arith))
     (le_true (get_or (app_bytes_one s ++ behind) 23 0) 3 (known_flag_byte s behind))
-begins-app Two s behind is =
+has_app_at-app Two s behind is =
     let size : length (app_bytes s ++ behind) ≡ length (app_bytes s) + length behind = length-append (app_bytes s) behind in
     let own : length (app_bytes s) ≡ 50 + 14 * length s.log.items = length-app_bytes s is in
     both _ _ (le_true 50 (length (app_bytes s ++ behind)) (omega arith))
@@ -64,11 +64,11 @@ begins-app Two s behind is =
 pub app_in-app_bytes : (v : Version) (s : AppState) (behind : List ℕ) → IsAppState s → app_in v (app_bytes_in v s ++ behind) ≡ Some (as_read v s)
 unfolding app_in
 app_in-app_bytes One s behind is =
-    ap (λ b. if b then Some (fields_one (app_bytes_one s ++ behind)) else None) (begins-app One s behind is)
+    ap (λ b. if b then Some (fields_one (app_bytes_one s ++ behind)) else None) (has_app_at-app One s behind is)
     ∙ ap (λ (t : AppState). Some t) (fields_one-app_bytes_one s behind is)
 app_in-app_bytes Two s behind is =
-    ap (λ b. if b then Some (fields_of (app_bytes s ++ behind)) else None) (begins-app Two s behind is)
-    ∙ ap (λ (t : AppState). Some t) (fields_of-app_bytes s behind is)
+    ap (λ b. if b then Some (app_fields (app_bytes s ++ behind)) else None) (has_app_at-app Two s behind is)
+    ∙ ap (λ (t : AppState). Some t) (app_fields-app_bytes s behind is)
 
 size-as_read : (v : Version) (s : AppState) → IsAppState s → length (app_bytes_in v s) ≡ size_in v (as_read v s)
 size-as_read One s is = length-app_bytes_one s is.one.pin.0
@@ -98,14 +98,14 @@ pub record IsRead (v : Version) (bs : List ℕ) (s : AppState) : Type 0 where
   pub size : size_in v s ≤ length bs
   pub same : as_read v s ≡ s
 
-one_is_read : (bs : List ℕ) → ((i : ℕ) → get_or bs i 0 < 256) → begins One bs ≡ true → IsRead One bs (fields_one bs)
+one_is_read : (bs : List ℕ) → ((i : ℕ) → get_or bs i 0 < 256) → has_app_at One bs ≡ true → IsRead One bs (fields_one bs)
 unfolding fields_one
 one_is_read bs fits test =
     let size : 32 ≤ length bs = true_le 32 (length bs) (first_of_both (nat_le 32 (length bs)) (is_flagged bs) test) in
     let few : get_or bs 23 0 ≤ 3 = true_le (get_or bs 23 0) 3 (second_of_both (nat_le 32 (length bs)) (is_flagged bs) test) in
     record { bytes = app_bytes_one-fields_one bs size fits few; size = size; same = refl }
 
-two_is_read : (bs : List ℕ) → ((i : ℕ) → get_or bs i 0 < 256) → begins Two bs ≡ true → IsRead Two bs (fields_of bs)
+two_is_read : (bs : List ℕ) → ((i : ℕ) → get_or bs i 0 < 256) → has_app_at Two bs ≡ true → IsRead Two bs (app_fields bs)
 two_is_read bs fits test =
     let behind = second_of_both (nat_le 50 (length bs)) (is_flagged bs && has_rows (drop 32 bs)) test in
     let size : 50 ≤ length bs = true_le 50 (length bs) (first_of_both (nat_le 50 (length bs)) (is_flagged bs && has_rows (drop 32 bs)) test) in
@@ -116,10 +116,10 @@ two_is_read bs fits test =
     let there : 18 + 14 * n ≤ length more = true_le (18 + 14 * n) (length more) (second_of_both (nat_le n 10) (nat_le (18 + 14 * n) (length more)) has) in
     let left : length more ≡ length bs - 32 = length-drop 32 bs in
     let whole : 50 + 14 * n ≤ length bs = omega arith in
-    let rows : length (fields_of bs).log.items ≡ n = rows-fields_of bs in
-    let sizes : 50 + 14 * n ≡ 50 + 14 * length (fields_of bs).log.items = omega arith in
+    let rows : length (app_fields bs).log.items ≡ n = rows-app_fields bs in
+    let sizes : 50 + 14 * n ≡ 50 + 14 * length (app_fields bs).log.items = omega arith in
     record {
-      bytes = app_bytes-fields_of bs size whole fits few ∙ ap (λ (k : ℕ). take k bs) sizes;
+      bytes = app_bytes-app_fields bs size whole fits few ∙ ap (λ (k : ℕ). take k bs) sizes;
       size = omega arith;
       same = refl;
     }
@@ -130,10 +130,10 @@ by_test P false x y holds is = cc
 
 app_in-is_read : (v : Version) (bs : List ℕ) (s : AppState) → ((i : ℕ) → get_or bs i 0 < 256) → app_in v bs ≡ Some s → IsRead v bs s
 unfolding app_in
-app_in-is_read One bs s fits is = by_test (λ (t : AppState). IsRead One bs t) (begins One bs) (fields_one bs) s (one_is_read bs fits) is
-app_in-is_read Two bs s fits is = by_test (λ (t : AppState). IsRead Two bs t) (begins Two bs) (fields_of bs) s (two_is_read bs fits) is
+app_in-is_read One bs s fits is = by_test (λ (t : AppState). IsRead One bs t) (has_app_at One bs) (fields_one bs) s (one_is_read bs fits) is
+app_in-is_read Two bs s fits is = by_test (λ (t : AppState). IsRead Two bs t) (has_app_at Two bs) (app_fields bs) s (two_is_read bs fits) is
 
-two_size : (bs : List ℕ) → begins Two bs ≡ true → size_in Two (fields_of bs) ≤ length bs
+two_size : (bs : List ℕ) → has_app_at Two bs ≡ true → size_in Two (app_fields bs) ≤ length bs
 two_size bs test =
     let behind = second_of_both (nat_le 50 (length bs)) (is_flagged bs && has_rows (drop 32 bs)) test in
     let more : List ℕ = drop 32 bs in
@@ -142,16 +142,16 @@ two_size bs test =
     let there : 18 + 14 * n ≤ length more = true_le (18 + 14 * n) (length more) (second_of_both (nat_le n 10) (nat_le (18 + 14 * n) (length more)) has) in
     let size : 50 ≤ length bs = true_le 50 (length bs) (first_of_both (nat_le 50 (length bs)) (is_flagged bs && has_rows (drop 32 bs)) test) in
     let left : length more ≡ length bs - 32 = length-drop 32 bs in
-    let rows : length (fields_of bs).log.items ≡ n = rows-fields_of bs in
+    let rows : length (app_fields bs).log.items ≡ n = rows-app_fields bs in
     omega arith
 
 -- an application fits into the bytes that it was read of
 pub size_known : (v : Version) (bs : List ℕ) (s : AppState) → app_in v bs ≡ Some s → size_in v s ≤ length bs
 unfolding app_in
 size_known One bs s is =
-    by_test (λ (t : AppState). 32 ≤ length bs) (begins One bs) (fields_one bs) s
+    by_test (λ (t : AppState). 32 ≤ length bs) (has_app_at One bs) (fields_one bs) s
     (λ test. true_le 32 (length bs) (first_of_both (nat_le 32 (length bs)) (is_flagged bs) test)) is
-size_known Two bs s is = by_test (λ (t : AppState). size_in Two t ≤ length bs) (begins Two bs) (fields_of bs) s (two_size bs) is
+size_known Two bs s is = by_test (λ (t : AppState). size_in Two t ≤ length bs) (has_app_at Two bs) (app_fields bs) s (two_size bs) is
 
 -- reading an application
 module _ (v : Version) (bs : List ℕ) where
@@ -170,7 +170,7 @@ not_le : (m n : ℕ) → n < m → nat_le m n ≡ false
 not_le m n above = grind (arith, nat_tests)
 
 module _ (bs : List ℕ) where
-  none_of_one : begins One bs ≡ false → None ≡ app_in One bs
+  none_of_one : has_app_at One bs ≡ false → None ≡ app_in One bs
   unfolding app_in
   none_of_one fails = sym (ap (λ b. if b then Some (fields_one bs) else None) fails)
 
@@ -183,12 +183,12 @@ module _ (bs : List ℕ) where
   pub one_there : 32 ≤ length bs → get_or bs 23 0 ≤ 3 → (s : AppState) → s ≡ fields_one bs → Some s ≡ app_in One bs
   unfolding app_in
   one_there size few s is =
-      let test : begins One bs ≡ true = both (nat_le 32 (length bs)) (is_flagged bs) (le_true 32 (length bs) size) (le_true (get_or bs 23 0) 3 few) in
+      let test : has_app_at One bs ≡ true = both (nat_le 32 (length bs)) (is_flagged bs) (le_true 32 (length bs) size) (le_true (get_or bs 23 0) 3 few) in
       ap (λ (t : AppState). Some t) is ∙ sym (ap (λ b. if b then Some (fields_one bs) else None) test)
 
-  none_of_two : begins Two bs ≡ false → None ≡ app_in Two bs
+  none_of_two : has_app_at Two bs ≡ false → None ≡ app_in Two bs
   unfolding app_in
-  none_of_two fails = sym (ap (λ b. if b then Some (fields_of bs) else None) fails)
+  none_of_two fails = sym (ap (λ b. if b then Some (app_fields bs) else None) fails)
 
   pub two_short : length bs < 50 → None ≡ app_in Two bs
   two_short few = none_of_two (first_fails (nat_le 50 (length bs)) (is_flagged bs && has_rows (drop 32 bs)) (not_le 50 (length bs) few))
@@ -210,9 +210,9 @@ module _ (bs : List ℕ) where
 
     pub two_there : 50 ≤ length bs → get_or bs 23 0 ≤ 3 → has_rows rest ≡ true → (s t : AppState) → s ≡ fields_one bs → t ≡ with_more s rest
         → Some t ≡ app_in Two bs
-    unfolding app_in fields_of
+    unfolding app_in app_fields
     two_there size few has s t is with_is =
-        let test : begins Two bs ≡ true =
+        let test : has_app_at Two bs ≡ true =
         both (nat_le 50 (length bs)) (is_flagged bs && has_rows (drop 32 bs)) (le_true 50 (length bs) size)
         (both (is_flagged bs) (has_rows (drop 32 bs)) (le_true (get_or bs 23 0) 3 few) (ap (λ (more : List ℕ). has_rows more) (sym here) ∙ has)) in
         let fields : t ≡ with_more (fields_one bs) (drop 32 bs) =

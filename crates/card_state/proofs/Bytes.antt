@@ -1,10 +1,10 @@
 -- Arrays of bytes, and bytes that are appended part by part.
 use Rattle.std.proofs.Common.{◌≡◌, ℕ, ◌<◌, ◌^◌, List, ◌++◌, length, get_or, ◌∙◌, ap, arith, sym, append_assoc}
 use Rattle.std.proofs.lemmas.List.{get_or_default}
-use Rattle.card_state.specs.Encoding.{AreBytes}
+use Rattle.card_state.specs.Encoding.{AreBytesOf}
 
 -- an array of bytes
-pub are_bytes : (bs : List ℕ) (n : ℕ) → length bs ≡ n → ((i : ℕ) → get_or bs i 0 < 256) → AreBytes n bs
+pub are_bytes : (bs : List ℕ) (n : ℕ) → length bs ≡ n → ((i : ℕ) → get_or bs i 0 < 256) → AreBytesOf n bs
 are_bytes bs n size small = (
   size,
   λ k d within. (

@@ -7,7 +7,7 @@ use Rattle.card_state.specs.declared.decoding.Version.TheVariants.{One, Two}
 use Rattle.card_state.specs.declared.state.AppState.{AppState}
 use Rattle.card_state.specs.declared.state.CardState.{CardState}
 use Rattle.card_state.specs.Encoding.{encoding, encoding_one, IsCardState}
-use Rattle.card_state.specs.Layout.{apps_in, card_in, decoded, decoded_one}
+use Rattle.card_state.specs.Layout.{apps_in, card_of_bytes, decoded, decoded_one}
 use Rattle.card_state.specs.Upgrade.{card_as_one}
 use Rattle.card_state.proofs.Apps.{app_bytes_in, as_read, AreRead, apps_in-flat_map, apps_in-are_read}
 
@@ -38,10 +38,10 @@ flag_written (suc (suc n)) few = absurd (omega arith)
 abbrev pub card_read : Version → CardState → CardState
 card_read v state = record { blocked = state.blocked; apps = record { items = map (as_read v) state.apps.items } }
 
-card_in-read : (v : Version) (state : CardState) → IsCardState state
-    → card_in v (length state.apps.items) (if state.blocked then 1 else 0) (flat_map (app_bytes_in v) state.apps.items) ≡ Some (card_read v state)
-unfolding card_in
-card_in-read v state is =
+card_of_bytes-read : (v : Version) (state : CardState) → IsCardState state
+    → card_of_bytes v (length state.apps.items) (if state.blocked then 1 else 0) (flat_map (app_bytes_in v) state.apps.items) ≡ Some (card_read v state)
+unfolding card_of_bytes
+card_of_bytes-read v state is =
     let count : ℕ = length state.apps.items in
     let card : ℕ = (if state.blocked then 1 else 0) in
     let bytes : List ℕ = flat_map (app_bytes_in v) state.apps.items in
@@ -62,16 +62,16 @@ same_card state = λ i. record { blocked = state.blocked; apps = record { items 
 -- a state is read back from its bytes of version 2
 pub decoded-encoding : (state : CardState) → IsCardState state → decoded (encoding state) ≡ Some state
 unfolding decoded encoding
-decoded-encoding state is = card_in-read Two state is ∙ ap (λ (s : CardState). Some s) (same_card state)
+decoded-encoding state is = card_of_bytes-read Two state is ∙ ap (λ (s : CardState). Some s) (same_card state)
 
 -- and what version 1 knows of it from those of version 1
 pub decoded-encoding_one : (state : CardState) → IsCardState state → decoded (encoding_one state) ≡ Some (card_as_one state)
 unfolding decoded encoding_one
-decoded-encoding_one state is = card_in-read One state is
+decoded-encoding_one state is = card_of_bytes-read One state is
 
 pub decoded_one-encoding_one : (state : CardState) → IsCardState state → decoded_one (encoding_one state) ≡ Some (card_as_one state)
 unfolding decoded_one encoding_one
-decoded_one-encoding_one state is = card_in-read One state is
+decoded_one-encoding_one state is = card_of_bytes-read One state is
 
 -- bytes of version 2 are none of version 1
 pub decoded_one-encoding : (state : CardState) → decoded_one (encoding state) ≡ None
@@ -112,10 +112,10 @@ by_test v count card bytes state true true o test reads is = reads (true_le card
 by_test v count card bytes state true false o test reads is = cc
 by_test v count card bytes state false here o test reads is = cc
 
-card_in-is_card : (v : Version) (count card : ℕ) (bytes : List ℕ) (state : CardState) → ((i : ℕ) → get_or bytes i 0 < 256)
-    → card_in v count card bytes ≡ Some state → IsCard v count card bytes state
-unfolding card_in
-card_in-is_card v count card bytes state fits is =
+card_of_bytes-is_card : (v : Version) (count card : ℕ) (bytes : List ℕ) (state : CardState) → ((i : ℕ) → get_or bytes i 0 < 256)
+    → card_of_bytes v count card bytes ≡ Some state → IsCard v count card bytes state
+unfolding card_of_bytes
+card_of_bytes-is_card v count card bytes state fits is =
     by_test v count card bytes state (nat_le count 4) (nat_le card 1)
     (option_map (λ (apps : List AppState). record { blocked = card == 1; apps = record { items = apps } }) (apps_in v count bytes)) refl
     (λ few found. of_apps v count card bytes state (apps_in v count bytes) few (λ apps read. apps_in-are_read v count bytes apps fits read) found) is
@@ -134,16 +134,16 @@ one_encoded count card bytes state read = inr ((λ i. 1 ∷ read.count_is i ∷ 
 
 by_version : (version count card : ℕ) (bytes : List ℕ) (state : CardState) (one two : Bool) → (version == 1) ≡ one → (version == 2) ≡ two
     → ((i : ℕ) → get_or bytes i 0 < 256)
-    → (if one then card_in One count card bytes else if two then card_in Two count card bytes else None) ≡ Some state
+    → (if one then card_of_bytes One count card bytes else if two then card_of_bytes Two count card bytes else None) ≡ Some state
     → IsEncoded state (version ∷ count ∷ card ∷ bytes)
 by_version version count card bytes state true two first second fits is =
     let first_is : 1 ≡ version = grind (arith, nat_tests) in
     let P : ℕ → Type 0 = λ v. IsEncoded state (v ∷ count ∷ card ∷ bytes) in
-    subst P first_is (one_encoded count card bytes state (card_in-is_card One count card bytes state fits is))
+    subst P first_is (one_encoded count card bytes state (card_of_bytes-is_card One count card bytes state fits is))
 by_version version count card bytes state false true first second fits is =
     let second_is : 2 ≡ version = grind (arith, nat_tests) in
     let P : ℕ → Type 0 = λ v. IsEncoded state (v ∷ count ∷ card ∷ bytes) in
-    subst P second_is (two_encoded count card bytes state (card_in-is_card Two count card bytes state fits is))
+    subst P second_is (two_encoded count card bytes state (card_of_bytes-is_card Two count card bytes state fits is))
 by_version version count card bytes state false false first second fits is = cc
 
 pub decoded-is_encoded : (bytes : List ℕ) (state : CardState) → ((i : ℕ) → get_or bytes i 0 < 256) → decoded bytes ≡ Some state → IsEncoded state bytes
@@ -180,11 +180,11 @@ module _ (v : Version) (count card : ℕ) (bytes : List ℕ) where
   abbrev card_with : List AppState → CardState
   card_with apps = record { blocked = card == 1; apps = record { items = apps } }
 
-  pub no_head : (nat_le count 4 && nat_le card 1) ≡ false → None ≡ card_in v count card bytes
-  unfolding card_in
+  pub no_head : (nat_le count 4 && nat_le card 1) ≡ false → None ≡ card_of_bytes v count card bytes
+  unfolding card_of_bytes
   no_head test = sym (ap (λ b. if b then option_map card_with (apps_in v count bytes) else None) test)
 
-  pub with_head : (nat_le count 4 && nat_le card 1) ≡ true → (o : Option (List AppState)) → o ≡ apps_in v count bytes → option_map card_with o ≡ card_in v count card bytes
-  unfolding card_in
+  pub with_head : (nat_le count 4 && nat_le card 1) ≡ true → (o : Option (List AppState)) → o ≡ apps_in v count bytes → option_map card_with o ≡ card_of_bytes v count card bytes
+  unfolding card_of_bytes
   with_head test o is =
       ap (λ (p : Option (List AppState)). option_map card_with p) is ∙ sym (ap (λ b. if b then option_map card_with (apps_in v count bytes) else None) test)

@@ -17,10 +17,10 @@ use Rattle.card_state.specs.declared.decision.Decision.TheVariants.{Started, Pin
 use Rattle.card_state.specs.declared.state.AppState.{AppState}
 use Rattle.card_state.specs.declared.state.CardState.{CardState}
 use Rattle.card_state.specs.declared.state.LogRow.{LogRow}
-use Rattle.card_state.specs.Allowed.{Finds, Allowed}
-use Rattle.card_state.specs.Change.{changed, plus, IsWithin, MayDecide}
-use Rattle.card_state.specs.Decisions.{Decided, blocks_card, is_one, is_two, row, restores, rows_from, tries_steered}
-use Rattle.card_state.specs.Encoding.{AreBytes, IsRow, IsAppState, IsCardState, HasShortLogs}
+use Rattle.card_state.specs.Allowed.{FindsAllowed, Allowed}
+use Rattle.card_state.specs.Change.{changed, sum_with, IsWithinLimit, MayDecide}
+use Rattle.card_state.specs.Decisions.{Decided, blocks_card, is_one, is_two, log_row, restores, rows_from, tries_steered}
+use Rattle.card_state.specs.Encoding.{AreBytesOf, IsLogRow, IsAppState, IsCardState, HasShortLogs}
 use Rattle.card_state.specs.Fits.{FitsFields, FitsSale, FitsSteered, AllFit}
 use Rattle.card_state.specs.Totals.{app_totals, apps_totals, own_decisions, after_last, last_or, totals}
 use Rattle.card_state.proofs.CardLemmas.{totals-longer}
@@ -39,12 +39,12 @@ record IsKept (s : AppState) : Type 0 where
   count_limit : s.count_limit < 2 ^ 8
   sum_limit : s.sum_limit < 2 ^ 64
   tries : s.tries < 2 ^ 8
-  pin : AreBytes 8 s.pin
+  pin : AreBytesOf 8 s.pin
   sum_two : s.sum_two < 2 ^ 64
   limit_two : s.limit_two < 2 ^ 64
   log_max : s.log_max ≤ 10
   few_rows : length s.log.items ≤ s.log_max
-  rows : All IsRow s.log.items
+  rows : All IsLogRow s.log.items
 
 encodable : (s : AppState) → IsKept s → IsAppState s
 encodable s is =
@@ -70,7 +70,7 @@ kind_fits Aac = omega arith
 kind_fits Tc = omega arith
 kind_fits Arqc = omega arith
 
-row_fits : (counter : ℕ) (kind : Kind) (sale : Sale) → counter < 2 ^ 16 → FitsSale sale → IsRow (row counter kind sale)
+row_fits : (counter : ℕ) (kind : Kind) (sale : Sale) → counter < 2 ^ 16 → FitsSale sale → IsLogRow (log_row counter kind sale)
 row_fits counter kind sale small fits = record { raw = fits.raw; currency = fits.currency; date = fits.date; counter = small; kind = kind_fits kind }
 
 at_most : (most : ℕ) (rows : List LogRow) → length (take most rows) ≤ most
@@ -78,24 +78,24 @@ at_most most rows = omega (arith, length-take most rows)
 
 module _ (s : AppState) (is : IsKept s) (kind : Kind) (sale : Sale) (fits : FitsSale sale) where
   abbrev rows_behind : List LogRow
-  rows_behind = take s.log_max (row s.counter kind sale ∷ s.log.items)
+  rows_behind = take s.log_max (log_row s.counter kind sale ∷ s.log.items)
 
-  rows_fit : All IsRow rows_behind
+  rows_fit : All IsLogRow rows_behind
   rows_fit =
-      All-take IsRow s.log_max (row s.counter kind sale ∷ s.log.items)
-      (All-cons IsRow (row s.counter kind sale) s.log.items (row_fits s.counter kind sale is.counter fits) is.rows)
+      All-take IsLogRow s.log_max (log_row s.counter kind sale ∷ s.log.items)
+      (All-cons IsLogRow (log_row s.counter kind sale) s.log.items (row_fits s.counter kind sale is.counter fits) is.rows)
 
   rows_few : length rows_behind ≤ s.log_max
-  rows_few = at_most s.log_max (row s.counter kind sale ∷ s.log.items)
+  rows_few = at_most s.log_max (log_row s.counter kind sale ∷ s.log.items)
 
-sum_fits : (s : AppState) (which : Which) (amount : ℕ) → IsWithin s which amount → s.sum < 2 ^ 64 → s.sum_limit < 2 ^ 64
-    → plus s.sum (if is_one which then Some amount else None) < 2 ^ 64
+sum_fits : (s : AppState) (which : Which) (amount : ℕ) → IsWithinLimit s which amount → s.sum < 2 ^ 64 → s.sum_limit < 2 ^ 64
+    → sum_with s.sum (if is_one which then Some amount else None) < 2 ^ 64
 sum_fits s One amount within sum limit = omega (arith, within)
 sum_fits s Two amount within sum limit = sum
 sum_fits s Neither amount within sum limit = sum
 
-sum_two_fits : (s : AppState) (which : Which) (amount : ℕ) → IsWithin s which amount → s.sum_two < 2 ^ 64 → s.limit_two < 2 ^ 64
-    → plus s.sum_two (if is_two which then Some amount else None) < 2 ^ 64
+sum_two_fits : (s : AppState) (which : Which) (amount : ℕ) → IsWithinLimit s which amount → s.sum_two < 2 ^ 64 → s.limit_two < 2 ^ 64
+    → sum_with s.sum_two (if is_two which then Some amount else None) < 2 ^ 64
 sum_two_fits s One amount within sum limit = sum
 sum_two_fits s Two amount within sum limit = omega (arith, within)
 sum_two_fits s Neither amount within sum limit = sum
@@ -109,7 +109,7 @@ tries_fit tries (Some s) small fits = by_test (restores s)
     by_test false = small
 
 made : (s : AppState) → s.counter < 2 ^ 16 → s.last_online < 2 ^ 16 → s.count < 2 ^ 8 → s.sum < 2 ^ 64 → s.count_limit < 2 ^ 8 → s.sum_limit < 2 ^ 64
-    → s.tries < 2 ^ 8 → AreBytes 8 s.pin → s.sum_two < 2 ^ 64 → s.limit_two < 2 ^ 64 → s.log_max ≤ 10 → length s.log.items ≤ s.log_max → All IsRow s.log.items
+    → s.tries < 2 ^ 8 → AreBytesOf 8 s.pin → s.sum_two < 2 ^ 64 → s.limit_two < 2 ^ 64 → s.log_max ≤ 10 → length s.log.items ≤ s.log_max → All IsLogRow s.log.items
     → IsKept s
 made s counter online count sum count_limit sum_limit tries pin sum_two limit_two log_max few rows = record {
   counter = counter;
@@ -159,7 +159,7 @@ opens : (o : AppState) → IsAppState o → o.log_max ≤ 10 → IsKept (app_tot
 unfolding app_totals after_last last_or rows_from
 opens o is short =
     made (app_totals o []) (omega (arith, is.one.counter)) is.one.last_online (omega arith) (omega arith) is.one.count_limit is.one.sum_limit
-    (omega (arith, is.one.tries)) is.one.pin (omega arith) is.more.limit_two short (at_most o.log_max []) (All-take IsRow o.log_max [] (All-nil IsRow))
+    (omega (arith, is.one.tries)) is.one.pin (omega arith) is.more.limit_two short (at_most o.log_max []) (All-take IsLogRow o.log_max [] (All-nil IsLogRow))
 
 all_open : (n : ℕ) (openings : List AppState) → All IsAppState openings → All (λ s. s.log_max ≤ 10) openings → All IsKept (apps_totals n openings [])
 unfolding apps_totals own_decisions
@@ -186,7 +186,7 @@ card_opens opening is short = record {
 }
 
 -- a card's state after one more decision, which it allows
-card_keeps : (old : CardState) (d : Decided) → IsKeptCard old → Finds old d → FitsFields d.decision → (s : AppState) → slice_get old.apps.items d.app ≡ Some s
+card_keeps : (old : CardState) (d : Decided) → IsKeptCard old → FindsAllowed old d → FitsFields d.decision → (s : AppState) → slice_get old.apps.items d.app ≡ Some s
     → (opening : CardState) (ds : List Decided) → old ≡ totals opening ds → IsKeptCard (totals opening (ds ++ d ∷ []))
 card_keeps old d is finds fits s there opening ds same =
     let own : IsKept s = subst (λ (t : AppState). IsKept t) (get_or_from_slice_get old.apps.items d.app s s there) (is.apps d.app s finds.in_range) in
@@ -204,7 +204,7 @@ card_keeps old d is finds fits s there opening ds same =
 step : (opening : CardState) (ds : List Decided) → Allowed opening ds → AllFit ds → (n : ℕ) (d : Decided) → slice_get ds n ≡ Some d
     → IsKeptCard (totals opening (take n ds)) → IsKeptCard (totals opening (take n ds ++ d ∷ []))
 step opening ds allowed fit n d here before =
-    let finds : Finds (totals opening (take n ds)) d = allowed n d here in
+    let finds : FindsAllowed (totals opening (take n ds)) d = allowed n d here in
     let within : n < length ds = slice_get_within ds n d here in
     let fits : FitsFields d.decision = subst (λ (e : Decided). FitsFields e.decision) (get_or_from_slice_get ds n d d here) (fit n d within) in
     let found = some_at (totals opening (take n ds)).apps.items d.app finds.in_range in

@@ -7,8 +7,8 @@ use Rattle.std.proofs.lemmas.List.{take_at, take_rest, drop_at, drop-drop, get_o
 use Rattle.std.proofs.Math.Seq.{drop-cons, take-add, drop-append-add}
 use Rattle.card_state.specs.declared.state.AppState.{AppState}
 use Rattle.card_state.specs.declared.state.LogRow.{LogRow}
-use Rattle.card_state.specs.Encoding.{app_bytes_one, more_bytes, row_bytes, app_bytes, IsRow, IsAppState}
-use Rattle.card_state.specs.Layout.{as_one, fields_one, row_at, rows_in, rows_said, with_more, fields_of}
+use Rattle.card_state.specs.Encoding.{app_bytes_one, more_bytes, row_bytes, app_bytes, IsLogRow, IsAppState}
+use Rattle.card_state.specs.Layout.{as_one, fields_one, log_row_of, rows_in, rows_said, with_more, app_fields}
 
 blocked_flag : (blocked failed : Bool) → (((if blocked then 1 else 0) + (if failed then 2 else 0)) % 2 == 1) ≡ blocked
 blocked_flag true true = refl
@@ -69,7 +69,7 @@ fields_one-app_bytes_one s behind is = λ i. record {
 sizes : (a b c d e : List ℕ) → length ((((a ++ b) ++ c) ++ d) ++ e) ≡ length a + length b + length c + length d + length e
 sizes a b c d e = simp length-append
 
-length-row_bytes : (r : LogRow) → IsRow r → length (row_bytes r) ≡ 14
+length-row_bytes : (r : LogRow) → IsLogRow r → length (row_bytes r) ≡ 14
 unfolding row_bytes
 length-row_bytes r is =
     let all : length (row_bytes r) ≡ length r.raw + length r.currency + length r.date + 2 + 1 =
@@ -101,9 +101,9 @@ module _ (raw currency date : List ℕ) (counter kind : ℕ) (behind : List ℕ)
   last : get_or whole 13 0 ≡ kind
   last = sym (get_or-drop 11 whole 2 0) ∙ ap (λ (xs : List ℕ). get_or xs 2 0) past_date
 
-  row_at-spread : counter < 2 ^ 16 → row_at whole ≡ record { raw = raw; currency = currency; date = date; counter = counter; kind = kind }
-  unfolding row_at
-  row_at-spread fits = λ i. record {
+  log_row_of-spread : counter < 2 ^ 16 → log_row_of whole ≡ record { raw = raw; currency = currency; date = date; counter = counter; kind = kind }
+  unfolding log_row_of
+  log_row_of-spread fits = λ i. record {
     raw = take_at raw (currency ++ (date ++ tail)) 6 six i;
     currency = (ap (λ (xs : List ℕ). take 2 xs) past_raw ∙ take_at currency (date ++ tail) 2 two) i;
     date = (ap (λ (xs : List ℕ). take 3 xs) past_currency ∙ take_at date tail 3 three) i;
@@ -111,32 +111,32 @@ module _ (raw currency date : List ℕ) (counter kind : ℕ) (behind : List ℕ)
     kind = last i;
   }
 
-row_at-row_bytes : (r : LogRow) (behind : List ℕ) → IsRow r → row_at (row_bytes r ++ behind) ≡ r
+log_row_of-row_bytes : (r : LogRow) (behind : List ℕ) → IsLogRow r → log_row_of (row_bytes r ++ behind) ≡ r
 unfolding row_bytes
-row_at-row_bytes r behind is =
-    ap (λ (bs : List ℕ). row_at bs) (spread r.raw r.currency r.date (to_be_bytes w16 r.counter) (r.kind ∷ []) behind)
-    ∙ row_at-spread r.raw r.currency r.date r.counter r.kind behind is.raw.0 is.currency.0 is.date.0 is.counter
+log_row_of-row_bytes r behind is =
+    ap (λ (bs : List ℕ). log_row_of bs) (spread r.raw r.currency r.date (to_be_bytes w16 r.counter) (r.kind ∷ []) behind)
+    ∙ log_row_of-spread r.raw r.currency r.date r.counter r.kind behind is.raw.0 is.currency.0 is.date.0 is.counter
 
 others : {A : Type 0} (P : A → Type 0) (x : A) (xs : List A) → All P (x ∷ xs) → All P xs
 others P x xs all = λ k d within. all (suc k) d (omega arith)
 
 -- the rows of a log stand in its bytes
-pub rows_in-row_bytes : (rows : List LogRow) (behind : List ℕ) → All IsRow rows → rows_in (length rows) (flat_map row_bytes rows ++ behind) ≡ rows
+pub rows_in-row_bytes : (rows : List LogRow) (behind : List ℕ) → All IsLogRow rows → rows_in (length rows) (flat_map row_bytes rows ++ behind) ≡ rows
 unfolding rows_in
 rows_in-row_bytes [] behind all = refl
 rows_in-row_bytes (r ∷ rs) behind all =
-    let first : IsRow r = all 0 r (omega arith) in
+    let first : IsLogRow r = all 0 r (omega arith) in
     let rest : List ℕ = flat_map row_bytes rs ++ behind in
-    ap (λ (bs : List ℕ). row_at bs ∷ rows_in (length rs) (drop 14 bs)) (append_assoc (row_bytes r) (flat_map row_bytes rs) behind)
-    ∙ ap (λ (x : LogRow). x ∷ rows_in (length rs) (drop 14 (row_bytes r ++ rest))) (row_at-row_bytes r rest first)
+    ap (λ (bs : List ℕ). log_row_of bs ∷ rows_in (length rs) (drop 14 bs)) (append_assoc (row_bytes r) (flat_map row_bytes rs) behind)
+    ∙ ap (λ (x : LogRow). x ∷ rows_in (length rs) (drop 14 (row_bytes r ++ rest))) (log_row_of-row_bytes r rest first)
     ∙ ap (λ (bs : List ℕ). r ∷ rows_in (length rs) bs) (drop_at (row_bytes r) rest 14 (length-row_bytes r first))
-    ∙ ap (λ (xs : List LogRow). r ∷ xs) (rows_in-row_bytes rs behind (others IsRow r rs all))
+    ∙ ap (λ (xs : List LogRow). r ∷ xs) (rows_in-row_bytes rs behind (others IsLogRow r rs all))
 
-pub length-rows : (rows : List LogRow) → All IsRow rows → length (flat_map row_bytes rows) ≡ 14 * length rows
+pub length-rows : (rows : List LogRow) → All IsLogRow rows → length (flat_map row_bytes rows) ≡ 14 * length rows
 length-rows [] all = refl
 length-rows (r ∷ rs) all =
     let head : length (row_bytes r) ≡ 14 = length-row_bytes r (all 0 r (omega arith)) in
-    let tail : length (flat_map row_bytes rs) ≡ 14 * length rs = length-rows rs (others IsRow r rs all) in
+    let tail : length (flat_map row_bytes rs) ≡ 14 * length rs = length-rows rs (others IsLogRow r rs all) in
     let both : length (row_bytes r ++ flat_map row_bytes rs) ≡ length (row_bytes r) + length (flat_map row_bytes rs) =
     length-append (row_bytes r) (flat_map row_bytes rs) in
     omega arith
@@ -174,9 +174,9 @@ known_flags_two s behind =
     let same : get_or (app_bytes s ++ behind) 23 0 ≡ get_or (app_bytes_one s ++ rest) 23 0 = ap (λ (bs : List ℕ). get_or bs 23 0) (parts s behind) in
     omega arith
 
-pub fields_of-app_bytes : (s : AppState) (behind : List ℕ) → IsAppState s → fields_of (app_bytes s ++ behind) ≡ s
-unfolding fields_of
-fields_of-app_bytes s behind is =
+pub app_fields-app_bytes : (s : AppState) (behind : List ℕ) → IsAppState s → app_fields (app_bytes s ++ behind) ≡ s
+unfolding app_fields
+app_fields-app_bytes s behind is =
     let rest : List ℕ = more_bytes s ++ (flat_map row_bytes s.log.items ++ behind) in
     ap (λ (bs : List ℕ). with_more (fields_one bs) (drop 32 (app_bytes s ++ behind))) (parts s behind)
     ∙ ap (λ (t : AppState). with_more t (drop 32 (app_bytes s ++ behind))) (fields_one-app_bytes_one s rest is)
@@ -261,9 +261,9 @@ app_bytes_one-fields_one bs size fits few =
     refl
 
 -- so those of a row
-row_bytes-row_at : (bs : List ℕ) → 14 ≤ length bs → ((i : ℕ) → get_or bs i 0 < 256) → row_bytes (row_at bs) ≡ take 14 bs
-unfolding row_bytes row_at
-row_bytes-row_at bs size fits =
+row_bytes-log_row_of : (bs : List ℕ) → 14 ≤ length bs → ((i : ℕ) → get_or bs i 0 < 256) → row_bytes (log_row_of bs) ≡ take 14 bs
+unfolding row_bytes log_row_of
+row_bytes-log_row_of bs size fits =
     on bs _ _ 13 1
     (on bs _ _ 11 2
     (on bs _ _ 8 3
@@ -284,7 +284,7 @@ row_bytes-rows_in zero bs size fits = refl
 row_bytes-rows_in (suc n) bs size fits =
     let rest : 14 * n ≤ length (drop 14 bs) = simp length-drop (omega arith) in
     let count : 14 + 14 * n ≡ 14 * suc n = omega arith in
-    on bs (row_bytes (row_at bs)) (flat_map row_bytes (rows_in n (drop 14 bs))) 14 (14 * n) (row_bytes-row_at bs (omega arith) fits)
+    on bs (row_bytes (log_row_of bs)) (flat_map row_bytes (rows_in n (drop 14 bs))) 14 (14 * n) (row_bytes-log_row_of bs (omega arith) fits)
     (row_bytes-rows_in n (drop 14 bs) rest (drop_fits bs 14 fits))
     ∙ ap (λ (k : ℕ). take k bs) count
 
@@ -307,16 +307,16 @@ unfolding with_more
 rows-with_more t more = refl
 
 -- how many rows stand there
-pub rows-fields_of : (bs : List ℕ) → length (fields_of bs).log.items ≡ rows_said (drop 32 bs)
-unfolding fields_of
-rows-fields_of bs =
+pub rows-app_fields : (bs : List ℕ) → length (app_fields bs).log.items ≡ rows_said (drop 32 bs)
+unfolding app_fields
+rows-app_fields bs =
     ap (λ (xs : List LogRow). length xs) (rows-with_more (fields_one bs) (drop 32 bs)) ∙ length-rows_in (rows_said (drop 32 bs)) (drop 18 (drop 32 bs))
 
 -- the bytes of the fields that stand there are these bytes
-pub app_bytes-fields_of : (bs : List ℕ) → 50 ≤ length bs → 50 + 14 * rows_said (drop 32 bs) ≤ length bs → ((i : ℕ) → get_or bs i 0 < 256)
-    → get_or bs 23 0 ≤ 3 → app_bytes (fields_of bs) ≡ take (50 + 14 * rows_said (drop 32 bs)) bs
-unfolding app_bytes fields_of
-app_bytes-fields_of bs size whole fits few =
+pub app_bytes-app_fields : (bs : List ℕ) → 50 ≤ length bs → 50 + 14 * rows_said (drop 32 bs) ≤ length bs → ((i : ℕ) → get_or bs i 0 < 256)
+    → get_or bs 23 0 ≤ 3 → app_bytes (app_fields bs) ≡ take (50 + 14 * rows_said (drop 32 bs)) bs
+unfolding app_bytes app_fields
+app_bytes-app_fields bs size whole fits few =
     let left : 18 ≤ length (drop 32 bs) = simp length-drop (omega arith) in
     let rest : 14 * rows_said (drop 32 bs) ≤ length (drop 18 (drop 32 bs)) = simp length-drop (omega arith) in
     let place : drop 18 (drop 32 bs) ≡ drop 50 bs = drop-drop 18 32 bs in
@@ -329,7 +329,7 @@ app_bytes-fields_of bs size whole fits few =
     ∙ ap (λ (xs : List ℕ). take (14 * rows_said (drop 32 bs)) xs) place)
 
 -- reading one row more, behind those so far
-pub one_more_row : (all front : List LogRow) (n left : ℕ) (rest : List ℕ) (r : LogRow) → left ≡ suc n → r ≡ row_at rest
+pub one_more_row : (all front : List LogRow) (n left : ℕ) (rest : List ℕ) (r : LogRow) → left ≡ suc n → r ≡ log_row_of rest
     → all ≡ front ++ rows_in left rest → all ≡ (front ++ r ∷ []) ++ rows_in n (take (length rest - 14) (drop 14 rest))
 unfolding rows_in
 one_more_row all front n left rest r some is so_far =

@@ -10,7 +10,7 @@ use Rattle.card_state.specs.declared.state.AppState.{AppState}
 use Rattle.card_state.specs.declared.state.LogRow.{LogRow}
 use Rattle.card_state.specs.Decisions.{is_start, is_try, is_reset, is_online, offline_sale, is_offline_approval, is_one, is_two, amount_in, row_given, rows_from, tries_given, blocked_given, pin_given, count_limit_given, sum_limit_given, failure_given}
 use Rattle.card_state.specs.Totals.{app_totals, last_given, after_last, up_to_last, gives_tries, approved_in}
-use Rattle.card_state.specs.Change.{changed, plus, logged}
+use Rattle.card_state.specs.Change.{changed, sum_with, logged}
 use Rattle.card_state.proofs.Pushes.{last_given-push, any-push, after_last-push, up_to_last-push, sum_by-push}
 
 -- a count with one element more
@@ -64,20 +64,20 @@ count-push p ds d = ap (λ (xs : List Decision). count_by p xs) (after_last-push
     go false = counted p (after_last is_reset ds) d
 
 summed : (own : Which → Bool) (ds : List Decision) (d : Decision)
-    → sum_by (approved_in own) (ds ++ d ∷ []) ≡ plus (sum_by (approved_in own) ds) (amount_in own (offline_sale d))
+    → sum_by (approved_in own) (ds ++ d ∷ []) ≡ sum_with (sum_by (approved_in own) ds) (amount_in own (offline_sale d))
 summed own ds d = sum_by-push (approved_in own) ds d ∙ go (amount_in own (offline_sale d)) (sum_by (approved_in own) ds)
   where
-    go : (o : Option ℕ) (n : ℕ) → n + unwrap_or o 0 ≡ plus n o
+    go : (o : Option ℕ) (n : ℕ) → n + unwrap_or o 0 ≡ sum_with n o
     go (Some amount) n = refl
     go None n = omega arith
 
 sum-push : (own : Which → Bool) (ds : List Decision) (d : Decision)
     → sum_by (approved_in own) (after_last is_reset (ds ++ d ∷ []))
-    ≡ (if is_reset d then 0 else plus (sum_by (approved_in own) (after_last is_reset ds)) (amount_in own (offline_sale d)))
+    ≡ (if is_reset d then 0 else sum_with (sum_by (approved_in own) (after_last is_reset ds)) (amount_in own (offline_sale d)))
 sum-push own ds d = ap (λ (xs : List Decision). sum_by (approved_in own) xs) (after_last-push is_reset ds d) ∙ go (is_reset d)
   where
     go : (b : Bool) → sum_by (approved_in own) (if b then [] else after_last is_reset ds ++ d ∷ [])
-        ≡ (if b then 0 else plus (sum_by (approved_in own) (after_last is_reset ds)) (amount_in own (offline_sale d)))
+        ≡ (if b then 0 else sum_with (sum_by (approved_in own) (after_last is_reset ds)) (amount_in own (offline_sale d)))
     go true = refl
     go false = summed own (after_last is_reset ds) d
 

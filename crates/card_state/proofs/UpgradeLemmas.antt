@@ -7,16 +7,16 @@ use Rattle.card_state.specs.declared.state.LogRow.{LogRow}
 use Rattle.card_state.specs.Decisions.{rows_from}
 use Rattle.card_state.specs.Layout.{as_one}
 use Rattle.card_state.specs.Totals.{app_totals, apps_totals, own_decisions, after_last, last_or, totals}
-use Rattle.card_state.specs.Upgrade.{card_as_one, with_limit, limited, with_limits}
+use Rattle.card_state.specs.Upgrade.{card_as_one, with_limit, limits_applied, with_limits}
 
-limited-cons : (o s t : AppState) (os ss : List AppState) → t ≡ with_limit o s → limited (o ∷ os) (s ∷ ss) ≡ t ∷ limited os ss
-unfolding limited
-limited-cons o s t os ss is = ap (λ (x : AppState). x ∷ limited os ss) (sym is)
+limits_applied-cons : (o s t : AppState) (os ss : List AppState) → t ≡ with_limit o s → limits_applied (o ∷ os) (s ∷ ss) ≡ t ∷ limits_applied os ss
+unfolding limits_applied
+limits_applied-cons o s t os ss is = ap (λ (x : AppState). x ∷ limits_applied os ss) (sym is)
 
 -- one application more
 pub one_more : (all front os ss : List AppState) (i : ℕ) (o s t : AppState) → i < length os → i < length ss
     → o ≡ get_or os i o → s ≡ get_or ss i s → t ≡ with_limit o s
-    → all ≡ front ++ limited (drop i os) (drop i ss) → all ≡ (front ++ t ∷ []) ++ limited (drop (i + 1) os) (drop (i + 1) ss)
+    → all ≡ front ++ limits_applied (drop i os) (drop i ss) → all ≡ (front ++ t ∷ []) ++ limits_applied (drop (i + 1) os) (drop (i + 1) ss)
 one_more all front os ss i o s t in_os in_ss is_o is_s is so_far =
     let next : suc i ≡ i + 1 = omega arith in
     let first : drop i os ≡ o ∷ drop (i + 1) os =
@@ -24,28 +24,28 @@ one_more all front os ss i o s t in_os in_ss is_o is_s is so_far =
     let second : drop i ss ≡ s ∷ drop (i + 1) ss =
     drop-cons ss i s in_ss ∙ ap (λ (x : AppState). x ∷ drop (suc i) ss) (sym is_s) ∙ ap (λ (k : ℕ). s ∷ drop k ss) next in
     so_far
-    ∙ ap (λ (xs : List AppState). front ++ limited xs (drop i ss)) first
-    ∙ ap (λ (xs : List AppState). front ++ limited (o ∷ drop (i + 1) os) xs) second
-    ∙ ap (λ (xs : List AppState). front ++ xs) (limited-cons o s t (drop (i + 1) os) (drop (i + 1) ss) is)
-    ∙ sym (append_assoc front (t ∷ []) (limited (drop (i + 1) os) (drop (i + 1) ss)))
+    ∙ ap (λ (xs : List AppState). front ++ limits_applied xs (drop i ss)) first
+    ∙ ap (λ (xs : List AppState). front ++ limits_applied (o ∷ drop (i + 1) os) xs) second
+    ∙ ap (λ (xs : List AppState). front ++ xs) (limits_applied-cons o s t (drop (i + 1) os) (drop (i + 1) ss) is)
+    ∙ sym (append_assoc front (t ∷ []) (limits_applied (drop (i + 1) os) (drop (i + 1) ss)))
 
-limited-none : (os : List AppState) → limited os [] ≡ []
-unfolding limited
-limited-none [] = refl
-limited-none (o ∷ os) = refl
+limits_applied-none : (os : List AppState) → limits_applied os [] ≡ []
+unfolding limits_applied
+limits_applied-none [] = refl
+limits_applied-none (o ∷ os) = refl
 
-past_end : (os ss : List AppState) (i : ℕ) → min (length os) (length ss) ≤ i → limited (drop i os) (drop i ss) ≡ []
-unfolding limited
+past_end : (os ss : List AppState) (i : ℕ) → min (length os) (length ss) ≤ i → limits_applied (drop i os) (drop i ss) ≡ []
+unfolding limits_applied
 past_end [] ss zero past = refl
 past_end [] ss (suc i) past = refl
 past_end (o ∷ os) [] zero past = refl
-past_end (o ∷ os) [] (suc i) past = limited-none (drop i os)
+past_end (o ∷ os) [] (suc i) past = limits_applied-none (drop i os)
 past_end (o ∷ os) (s ∷ ss) zero past = absurd (omega arith)
 past_end (o ∷ os) (s ∷ ss) (suc i) past = past_end os ss i (omega arith)
 
 -- all of them
 pub all_limited : (all front os ss : List AppState) (i : ℕ) → min (length os) (length ss) ≤ i
-    → all ≡ front ++ limited (drop i os) (drop i ss) → front ≡ all
+    → all ≡ front ++ limits_applied (drop i os) (drop i ss) → front ≡ all
 all_limited all front os ss i past so_far =
     sym (so_far ∙ ap (λ (xs : List AppState). front ++ xs) (past_end os ss i past) ∙ append-nil front)
 
@@ -73,11 +73,11 @@ same_app o = λ i. record {
   log = record { items = nothing_logged o.log_max [] refl i };
 }
 
-same_apps : (n : ℕ) (os : List AppState) → limited os (map as_one (apps_totals n os [])) ≡ apps_totals n os []
-unfolding limited apps_totals own_decisions
+same_apps : (n : ℕ) (os : List AppState) → limits_applied os (map as_one (apps_totals n os [])) ≡ apps_totals n os []
+unfolding limits_applied apps_totals own_decisions
 same_apps n [] = refl
 same_apps n (o ∷ os) =
-    ap (λ (s : AppState). s ∷ limited os (map as_one (apps_totals (n + 1) os []))) (same_app o)
+    ap (λ (s : AppState). s ∷ limits_applied os (map as_one (apps_totals (n + 1) os []))) (same_app o)
     ∙ ap (λ (ss : List AppState). app_totals o [] ∷ ss) (same_apps (n + 1) os)
 
 of_totals : (opening : CardState) → with_limits opening (card_as_one (totals opening [])) ≡ totals opening []

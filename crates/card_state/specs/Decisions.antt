@@ -101,20 +101,20 @@ amount_in own None = None
 amount_in own (Some sale) = (if own sale.which then Some sale.amount else None)
 
 -- a row of the transaction log: the sale, the counter that its decision finds, and the kind of the cryptogram
-abbrev pub row : ℕ → Kind → Sale → LogRow
-row counter kind sale = record { raw = sale.raw; currency = sale.currency; date = sale.date; counter = counter; kind = kind_byte kind }
+abbrev pub log_row : ℕ → Kind → Sale → LogRow
+log_row counter kind sale = record { raw = sale.raw; currency = sale.currency; date = sale.date; counter = counter; kind = kind_byte kind }
 
 -- a first cryptogram that ends the transaction, and each second one, are logged
 abbrev pub row_given : ℕ → Decision → Option LogRow
 row_given counter Started = None
 row_given counter PinTry = None
 row_given counter (PinRight limit) = None
-row_given counter (First Tc sale) = Some (row counter Tc sale)
-row_given counter (First Aac sale) = Some (row counter Aac sale)
+row_given counter (First Tc sale) = Some (log_row counter Tc sale)
+row_given counter (First Aac sale) = Some (log_row counter Aac sale)
 row_given counter (First Arqc sale) = None
 row_given counter (Authenticated right steered) = None
 row_given counter (Script command) = None
-row_given counter (Second kind how sale) = Some (row counter kind sale)
+row_given counter (Second kind how sale) = Some (log_row counter kind sale)
 
 -- the rows of some decisions, oldest first, where the counter stands at this number before them
 unfoldable pub rows_from : ℕ → List Decision → List LogRow
@@ -122,8 +122,8 @@ rows_from counter [] = []
 rows_from counter (d ∷ ds) = cons_option (row_given counter d) (rows_from (if is_start d then counter + 1 else counter) ds)
 
 -- the bits of the second byte of a card status update: b7 blocks the application, b6 the card, b5 restores the tries
-abbrev pub blocks : Steered → Bool
-blocks s = slice_index s.status 1 / 64 % 2 == 1
+abbrev pub blocks_app : Steered → Bool
+blocks_app s = slice_index s.status 1 / 64 % 2 == 1
 
 abbrev pub blocks_whole : Steered → Bool
 blocks_whole s = slice_index s.status 1 / 32 % 2 == 1
@@ -133,7 +133,7 @@ restores s = slice_index s.status 1 / 16 % 2 == 1
 
 abbrev pub block_steered : Option Steered → Option Bool
 block_steered None = None
-block_steered (Some s) = (if blocks s then Some true else None)
+block_steered (Some s) = (if blocks_app s then Some true else None)
 
 abbrev pub tries_steered : Option Steered → Option ℕ
 tries_steered None = None
@@ -144,7 +144,7 @@ card_steered None = false
 card_steered (Some s) = blocks_whole s
 
 -- the values that a decision gives to the fields of an application's state that are not counted
-pub record Given : Type 0 where
+pub record FieldsGiven : Type 0 where
   pub tries : Option ℕ
   pub blocked : Option Bool
   pub pin : Option (List ℕ)
@@ -153,44 +153,44 @@ pub record Given : Type 0 where
   -- whether an issuer authentication failed
   pub failure : Option Bool
 
-abbrev pub nothing : Given
-nothing = record { tries = None; blocked = None; pin = None; count_limit = None; sum_limit = None; failure = None }
+abbrev pub no_fields : FieldsGiven
+no_fields = record { tries = None; blocked = None; pin = None; count_limit = None; sum_limit = None; failure = None }
 
-abbrev pub given_by_script : Scripted → Given
-given_by_script Block = record nothing { blocked = Some true }
-given_by_script Unblock = record nothing { blocked = Some false }
-given_by_script CardBlock = nothing
-given_by_script (PinUnblock limit) = record nothing { tries = Some limit }
-given_by_script (PinChange pin limit) = record nothing { tries = Some limit; pin = Some pin }
-given_by_script (Count limit) = record nothing { count_limit = Some limit }
-given_by_script (Sum limit) = record nothing { sum_limit = Some limit }
+abbrev pub given_by_script : Scripted → FieldsGiven
+given_by_script Block = record no_fields { blocked = Some true }
+given_by_script Unblock = record no_fields { blocked = Some false }
+given_by_script CardBlock = no_fields
+given_by_script (PinUnblock limit) = record no_fields { tries = Some limit }
+given_by_script (PinChange pin limit) = record no_fields { tries = Some limit; pin = Some pin }
+given_by_script (Count limit) = record no_fields { count_limit = Some limit }
+given_by_script (Sum limit) = record no_fields { sum_limit = Some limit }
 
-abbrev pub given : Decision → Given
-given Started = nothing
-given PinTry = nothing
-given (PinRight limit) = record nothing { tries = Some limit }
-given (First kind sale) = nothing
-given (Authenticated right steered) = record nothing { tries = tries_steered steered; blocked = block_steered steered; failure = Some (not right) }
-given (Script command) = given_by_script command
-given (Second kind how sale) = nothing
+abbrev pub fields_given : Decision → FieldsGiven
+fields_given Started = no_fields
+fields_given PinTry = no_fields
+fields_given (PinRight limit) = record no_fields { tries = Some limit }
+fields_given (First kind sale) = no_fields
+fields_given (Authenticated right steered) = record no_fields { tries = tries_steered steered; blocked = block_steered steered; failure = Some (not right) }
+fields_given (Script command) = given_by_script command
+fields_given (Second kind how sale) = no_fields
 
 abbrev pub tries_given : Decision → Option ℕ
-tries_given d = (given d).tries
+tries_given d = (fields_given d).tries
 
 abbrev pub blocked_given : Decision → Option Bool
-blocked_given d = (given d).blocked
+blocked_given d = (fields_given d).blocked
 
 abbrev pub pin_given : Decision → Option (List ℕ)
-pin_given d = (given d).pin
+pin_given d = (fields_given d).pin
 
 abbrev pub count_limit_given : Decision → Option ℕ
-count_limit_given d = (given d).count_limit
+count_limit_given d = (fields_given d).count_limit
 
 abbrev pub sum_limit_given : Decision → Option ℕ
-sum_limit_given d = (given d).sum_limit
+sum_limit_given d = (fields_given d).sum_limit
 
 abbrev pub failure_given : Decision → Option Bool
-failure_given d = (given d).failure
+failure_given d = (fields_given d).failure
 
 abbrev pub is_card_block : Scripted → Bool
 is_card_block Block = false

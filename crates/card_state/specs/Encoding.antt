@@ -40,14 +40,14 @@ unfoldable pub encoding_one : CardState → List ℕ
 encoding_one state = 1 ∷ length state.apps.items ∷ (if state.blocked then 1 else 0) ∷ flat_map app_bytes_one state.apps.items
 
 -- so many bytes
-abbrev pub AreBytes : ℕ → List ℕ → Type 0
-AreBytes n bs = (length bs ≡ n) × All (λ b. b < 2 ^ 8) bs
+abbrev pub AreBytesOf : ℕ → List ℕ → Type 0
+AreBytesOf n bs = (length bs ≡ n) × All (λ b. b < 2 ^ 8) bs
 
 -- the numbers of a row are in the ranges of their fields
-pub record IsRow (r : LogRow) : Type 0 where
-  pub raw : AreBytes 6 r.raw
-  pub currency : AreBytes 2 r.currency
-  pub date : AreBytes 3 r.date
+pub record IsLogRow (r : LogRow) : Type 0 where
+  pub raw : AreBytesOf 6 r.raw
+  pub currency : AreBytesOf 2 r.currency
+  pub date : AreBytesOf 3 r.date
   pub counter : r.counter < 2 ^ 16
   pub kind : r.kind < 2 ^ 8
 
@@ -60,7 +60,7 @@ pub record IsAppOne (s : AppState) : Type 0 where
   pub count_limit : s.count_limit < 2 ^ 8
   pub sum_limit : s.sum_limit < 2 ^ 64
   pub tries : s.tries < 2 ^ 8
-  pub pin : AreBytes 8 s.pin
+  pub pin : AreBytesOf 8 s.pin
 
 -- and those that version 2 adds
 pub record IsMore (s : AppState) : Type 0 where
@@ -73,7 +73,7 @@ pub record IsMore (s : AppState) : Type 0 where
 pub record IsAppState (s : AppState) : Type 0 where
   pub one : IsAppOne s
   pub more : IsMore s
-  pub rows : All IsRow s.log.items
+  pub rows : All IsLogRow s.log.items
 
 -- at most four applications, whose numbers are in their ranges: what a card's state of the program is
 pub record IsCardState (state : CardState) : Type 0 where

@@ -8,22 +8,22 @@ use Rattle.card_state.specs.declared.decision.Scripted.TheVariants.{Block, Unblo
 use Rattle.card_state.specs.declared.decision.Decision.{Decision}
 use Rattle.card_state.specs.declared.decision.Decision.TheVariants.{Started, PinTry, PinRight, First, Authenticated, Script, Second}
 use Rattle.card_state.specs.Decisions.{Decided}
-use Rattle.card_state.specs.Encoding.{AreBytes}
+use Rattle.card_state.specs.Encoding.{AreBytesOf}
 
 abbrev pub FitsScripted : Scripted → Type 0
 FitsScripted Block = ⊤
 FitsScripted Unblock = ⊤
 FitsScripted CardBlock = ⊤
 FitsScripted (PinUnblock limit) = limit < 2 ^ 8
-FitsScripted (PinChange pin limit) = (limit < 2 ^ 8) × AreBytes 8 pin
+FitsScripted (PinChange pin limit) = (limit < 2 ^ 8) × AreBytesOf 8 pin
 FitsScripted (Count limit) = limit < 2 ^ 8
 FitsScripted (Sum limit) = limit < 2 ^ 64
 
 -- what a row of the log takes of a sale
 pub record FitsSale (sale : Sale) : Type 0 where
-  pub raw : AreBytes 6 sale.raw
-  pub currency : AreBytes 2 sale.currency
-  pub date : AreBytes 3 sale.date
+  pub raw : AreBytesOf 6 sale.raw
+  pub currency : AreBytesOf 2 sale.currency
+  pub date : AreBytesOf 3 sale.date
 
 -- the tries that a steering restores
 abbrev pub FitsSteered : Option Steered → Type 0

@@ -35,8 +35,8 @@ fields_one bytes = record {
 }
 
 -- the row in these 14 bytes, whatever is behind
-unfoldable pub row_at : List ℕ → LogRow
-row_at bytes = record {
+unfoldable pub log_row_of : List ℕ → LogRow
+log_row_of bytes = record {
   raw = take 6 (drop 0 bytes);
   currency = take 2 (drop 6 bytes);
   date = take 3 (drop 8 bytes);
@@ -47,7 +47,7 @@ row_at bytes = record {
 -- so many rows
 unfoldable pub rows_in : ℕ → List ℕ → List LogRow
 rows_in zero bytes = []
-rows_in (suc n) bytes = row_at bytes ∷ rows_in n (drop 14 bytes)
+rows_in (suc n) bytes = log_row_of bytes ∷ rows_in n (drop 14 bytes)
 
 -- the place of the number of rows behind the bytes of version 1, and the rows that are said to stand there
 abbrev pub rows_place : ℕ
@@ -66,8 +66,8 @@ with_more s more = record s {
 }
 
 -- the fields that stand in an application's bytes of version 2, whatever is behind
-unfoldable pub fields_of : List ℕ → AppState
-fields_of bytes = with_more (fields_one bytes) (drop 32 bytes)
+unfoldable pub app_fields : List ℕ → AppState
+app_fields bytes = with_more (fields_one bytes) (drop 32 bytes)
 
 -- how many bytes an application has
 abbrev pub size_in : Version → AppState → ℕ
@@ -83,14 +83,14 @@ abbrev pub has_rows : List ℕ → Bool
 has_rows more = nat_le (rows_said more) 10 && nat_le (18 + 14 * rows_said more) (length more)
 
 -- the bytes begin with an application
-abbrev pub begins : Version → List ℕ → Bool
-begins One bytes = nat_le 32 (length bytes) && is_flagged bytes
-begins Two bytes = nat_le 50 (length bytes) && (is_flagged bytes && has_rows (drop 32 bytes))
+abbrev pub has_app_at : Version → List ℕ → Bool
+has_app_at One bytes = nat_le 32 (length bytes) && is_flagged bytes
+has_app_at Two bytes = nat_le 50 (length bytes) && (is_flagged bytes && has_rows (drop 32 bytes))
 
 -- the application that they begin with
 unfoldable pub app_in : Version → List ℕ → Option AppState
-app_in One bytes = (if begins One bytes then Some (fields_one bytes) else None)
-app_in Two bytes = (if begins Two bytes then Some (fields_of bytes) else None)
+app_in One bytes = (if has_app_at One bytes then Some (fields_one bytes) else None)
+app_in Two bytes = (if has_app_at Two bytes then Some (app_fields bytes) else None)
 
 -- nothing is left
 abbrev pub none_left : List ℕ → Option (List AppState)
@@ -104,19 +104,19 @@ apps_in version (suc n) bytes =
     option_and_then (λ s. option_map (λ ss. s ∷ ss) (apps_in version n (drop (size_in version s) bytes))) (app_in version bytes)
 
 -- a card of so many applications; the byte before them is 01 where it is blocked, else 00
-unfoldable pub card_in : Version → ℕ → ℕ → List ℕ → Option CardState
-card_in version count card bytes =
+unfoldable pub card_of_bytes : Version → ℕ → ℕ → List ℕ → Option CardState
+card_of_bytes version count card bytes =
     if nat_le count 4 && nat_le card 1
     then option_map (λ apps. record { blocked = card == 1; apps = record { items = apps } }) (apps_in version count bytes)
     else None
 
 -- the state whose encoding of version 1 these bytes are
 unfoldable pub decoded_one : List ℕ → Option CardState
-decoded_one (version ∷ count ∷ card ∷ bytes) = (if version == 1 then card_in One count card bytes else None)
+decoded_one (version ∷ count ∷ card ∷ bytes) = (if version == 1 then card_of_bytes One count card bytes else None)
 decoded_one bytes = None
 
 -- the state whose encoding of either version they are
 unfoldable pub decoded : List ℕ → Option CardState
 decoded (version ∷ count ∷ card ∷ bytes) =
-    if version == 1 then card_in One count card bytes else if version == 2 then card_in Two count card bytes else None
+    if version == 1 then card_of_bytes One count card bytes else if version == 2 then card_of_bytes Two count card bytes else None
 decoded bytes = None

@@ -13,11 +13,11 @@ abbrev pub with_limit : AppState → AppState → AppState
 with_limit opening s = record s { limit_two = opening.limit_two; log_max = opening.log_max }
 
 -- one application after the other
-unfoldable pub limited : List AppState → List AppState → List AppState
-limited [] ss = []
-limited (o ∷ os) [] = []
-limited (o ∷ os) (s ∷ ss) = with_limit o s ∷ limited os ss
+unfoldable pub limits_applied : List AppState → List AppState → List AppState
+limits_applied [] ss = []
+limits_applied (o ∷ os) [] = []
+limits_applied (o ∷ os) (s ∷ ss) = with_limit o s ∷ limits_applied os ss
 
 -- a card's state with the limits of its opening state
 unfoldable pub with_limits : CardState → CardState → CardState
-with_limits opening state = record { blocked = state.blocked; apps = record { items = limited opening.apps.items state.apps.items } }
+with_limits opening state = record { blocked = state.blocked; apps = record { items = limits_applied opening.apps.items state.apps.items } }

@@ -5,9 +5,9 @@ ghost use Rattle.card_state.specs.declared.state.CardState.{CardState as Card};
 ghost use Rattle.card_state.specs.Allowed.{Allowed};
 ghost use Rattle.card_state.specs.Totals.{totals};
 ghost use Rattle.card_state.specs.declared.decision.Decision.TheVariants.{Authenticated, First, Script, Second};
-ghost use Rattle.card_state.specs.Change.{changed as changed_state, logged, MayDecide, plus, WithinLimits};
-ghost use Rattle.card_state.specs.Decisions.{Decided, amount_in, blocks as blocks_in, blocks_card, blocks_whole as blocks_whole_in, is_one, is_two, restores as restores_in, row, tries_steered};
-ghost use Rattle.card_state.specs.Encoding.{AreBytes, HasShortLogs};
+ghost use Rattle.card_state.specs.Change.{changed as changed_state, logged, MayDecide, sum_with, WithinLimits};
+ghost use Rattle.card_state.specs.Decisions.{Decided, amount_in, blocks_app as blocks_in, blocks_card, blocks_whole as blocks_whole_in, is_one, is_two, restores as restores_in, log_row, tries_steered};
+ghost use Rattle.card_state.specs.Encoding.{AreBytesOf, HasShortLogs};
 ghost use Rattle.emv_dict.specs.Kinds.{kind_byte};
 ghost use Rattle.card_state.specs.Fits.{FitsFields, FitsSale};
 
@@ -148,8 +148,8 @@ fn with_approval(app: &AppState, sale: &Sale) -> AppState
     requires { WithinLimits app.now sale.now }
     ensures { result ≡ record app.now {
       count = app.now.count + 1;
-      sum = plus app.now.sum (amount_in is_one (Some sale.now));
-      sum_two = plus app.now.sum_two (amount_in is_two (Some sale.now));
+      sum = sum_with app.now.sum (amount_in is_one (Some sale.now));
+      sum_two = sum_with app.now.sum_two (amount_in is_two (Some sale.now));
     } }
 {
     let count = app.count + 1;
@@ -178,7 +178,7 @@ fn more(sum: u64, amount: u64, limit: u64) -> u64
 
 /// The row of a sale in the transaction log.
 fn row_of(counter: u16, kind: Kind, sale: &Sale) -> LogRow
-    ensures is { result ≡ row counter kind sale.now }
+    ensures is { result ≡ log_row counter kind sale.now }
     ensures fits { FitsSale sale.now }
 {
     row_with(counter, kind, sale.raw, sale.currency, sale.date)
@@ -187,9 +187,9 @@ fn row_of(counter: u16, kind: Kind, sale: &Sale) -> LogRow
 /// The row of these fields.
 fn row_with(counter: u16, kind: Kind, raw: [u8; 6], currency: [u8; 2], date: [u8; 3]) -> LogRow
     ensures is { result ≡ record { raw = raw; currency = currency; date = date; counter = counter; kind = kind_byte kind } }
-    ensures raw { AreBytes 6 raw }
-    ensures currency { AreBytes 2 currency }
-    ensures date { AreBytes 3 date }
+    ensures raw { AreBytesOf 6 raw }
+    ensures currency { AreBytesOf 2 currency }
+    ensures date { AreBytesOf 3 date }
 {
     LogRow {
         raw,
@@ -276,7 +276,7 @@ fn restores(by: &Steered) -> bool
 fn with_pin(app: &AppState, pin: [u8; 8], limit: u8) -> AppState
     ensures changed { result ≡ record app.now { tries = limit; pin = pin } }
     ensures limit { limit < 2 ^ 8 }
-    ensures bytes { AreBytes 8 pin }
+    ensures bytes { AreBytesOf 8 pin }
 {
     AppState {
         tries: limit,

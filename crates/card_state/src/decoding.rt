@@ -6,7 +6,7 @@ ghost use Rattle.card_state.specs.Encoding.{encoding, encoding_one, HasShortLogs
 ghost use Rattle.card_state.specs.Fits.{AllFit};
 ghost use Rattle.card_state.specs.Totals.{totals};
 ghost use Rattle.card_state.specs.Layout as spec;
-ghost use Rattle.card_state.specs.Layout.{app_in, apps_in, card_in, decoded, decoded_one, row_at, rows_in, rows_said, size_in};
+ghost use Rattle.card_state.specs.Layout.{app_in, apps_in, card_of_bytes, decoded, decoded_one, log_row_of, rows_in, rows_said, size_in};
 ghost use Rattle.card_state.specs.Upgrade.{card_as_one};
 ghost use Rattle.card_state.specs.declared.decoding.Version.TheVariants.{One, Two};
 ghost use Rattle.card_state.specs.declared.state.CardState.{CardState as Card};
@@ -57,8 +57,8 @@ fn read_either(bytes: &[u8]) -> Option<CardState>
 
 /// The card of a version that is known.
 fn read_of(version: u8, count: u8, card: u8, bytes: &[u8]) -> Option<CardState>
-    ensures { result ≡ (if version == 1 then card_in One count card bytes.now
-        else if version == 2 then card_in Two count card bytes.now else None) }
+    ensures { result ≡ (if version == 1 then card_of_bytes One count card bytes.now
+        else if version == 2 then card_of_bytes Two count card bytes.now else None) }
 {
     if version == 1 {
         return read_card(Version::One, count, card, bytes);
@@ -82,7 +82,7 @@ pub fn decode_one(bytes: &[u8]) -> Option<CardState>
 
 /// The card of version 1.
 fn read_one(version: u8, count: u8, card: u8, bytes: &[u8]) -> Option<CardState>
-    ensures { result ≡ (if version == 1 then card_in One count card bytes.now else None) }
+    ensures { result ≡ (if version == 1 then card_of_bytes One count card bytes.now else None) }
 {
     if version != 1 {
         return None;
@@ -92,7 +92,7 @@ fn read_one(version: u8, count: u8, card: u8, bytes: &[u8]) -> Option<CardState>
 
 /// The card of so many applications.
 fn read_card(version: Version, count: u8, card: u8, bytes: &[u8]) -> Option<CardState>
-    ensures { result ≡ card_in version count card bytes.now }
+    ensures { result ≡ card_of_bytes version count card bytes.now }
 {
     if !is_head(count, card) {
         return None;
@@ -231,10 +231,10 @@ fn read_rows(count: u8, bytes: &[u8]) -> ArrayVec<LogRow, 10>
 }
 
 /// The row in the first 14 bytes.
-#[tactic(auto, unfolding(crate::specs::Layout::row_at))]
+#[tactic(auto, unfolding(crate::specs::Layout::log_row_of))]
 fn read_row(bytes: &[u8]) -> LogRow
     requires { 14 ≤ length bytes.now }
-    ensures { result ≡ row_at bytes.now }
+    ensures { result ≡ log_row_of bytes.now }
 {
     let mut raw = [0; 6];
     raw.copy_from_slice(&bytes[0..6]);

@@ -1,7 +1,7 @@
 ghost use Rattle.std.specs.Prelude.{◌≡◌, ◌+◌, ◌*◌, ◌^◌, ◌<◌, ◌≤◌, [], ◌∷◌, ◌++◌, length, flat_map};
 ghost use Rattle.std.specs.List.{All};
 ghost use Rattle.arrayvec.specs.ArrayVec.{array_vec_len};
-ghost use Rattle.card_state.specs.Encoding.{app_bytes, app_bytes_one, AreBytes, encoding, encoding_one, flags_of, IsAppOne, IsAppState, IsCardState, IsMore, IsRow, more_bytes, row_bytes};
+ghost use Rattle.card_state.specs.Encoding.{app_bytes, app_bytes_one, AreBytesOf, encoding, encoding_one, flags_of, IsAppOne, IsAppState, IsCardState, IsMore, IsLogRow, more_bytes, row_bytes};
 
 use crate::state::{AppState, CardState, LogRow};
 use arrayvec::ArrayVec;
@@ -74,7 +74,7 @@ fn append_pin(out: &mut ArrayVec<u8, 1024>, pin: [u8; 8])
     requires { array_vec_len out.old + 8 ≤ 1024 }
     ensures items { out.new.items ≡ out.old.items ++ pin }
     ensures len { array_vec_len out.new ≡ array_vec_len out.old + 8 }
-    ensures bytes { AreBytes 8 pin }
+    ensures bytes { AreBytesOf 8 pin }
 {
     append(out, &pin);
 }
@@ -106,7 +106,7 @@ fn append_rows(out: &mut ArrayVec<u8, 1024>, rows: &[LogRow])
     requires room { array_vec_len out.old + 140 ≤ 1024 }
     ensures items { out.new.items ≡ out.old.items ++ flat_map row_bytes rows.now }
     ensures len { array_vec_len out.new ≡ array_vec_len out.old + 14 * length rows.now }
-    ensures ranges { All IsRow rows.now }
+    ensures ranges { All IsLogRow rows.now }
 {
     for row in rows {
         append_row(out, *row);
@@ -118,7 +118,7 @@ fn append_row(out: &mut ArrayVec<u8, 1024>, row: LogRow)
     requires { array_vec_len out.old + 14 ≤ 1024 }
     ensures items { out.new.items ≡ out.old.items ++ row_bytes row }
     ensures len { array_vec_len out.new ≡ array_vec_len out.old + 14 }
-    ensures ranges { IsRow row }
+    ensures ranges { IsLogRow row }
 {
     let LogRow {
         raw,

@@ -1,5 +1,5 @@
 ghost use Rattle.std.specs.Prelude.{◌≡◌, ◌≤◌, length};
-ghost use Rattle.card_state.specs.Upgrade.{limited, with_limit as with_limit_of, with_limits as with_limits_of};
+ghost use Rattle.card_state.specs.Upgrade.{limits_applied, with_limit as with_limit_of, with_limits as with_limits_of};
 
 use crate::state::{AppState, CardState};
 use arrayvec::ArrayVec;
@@ -19,7 +19,7 @@ pub fn with_limits(opening: &CardState, state: &CardState) -> CardState
 /// The applications with the limits of those of the opening state.
 fn apps_with_limits(opening: &[AppState], apps: &[AppState]) -> ArrayVec<AppState, 4>
     requires { length apps.now ≤ 4 }
-    ensures { result.items ≡ limited opening.now apps.now }
+    ensures { result.items ≡ limits_applied opening.now apps.now }
 {
     let mut made = ArrayVec::new();
     let count = opening.len().min(apps.len());

@@ -282,7 +282,7 @@ fn has_a_directory(rt: HostRuntime) -> Result<(), Fail> {
     let image = Image::new(apps, 1, Some(1)).expect(&rt, "an image");
     let is_named = image.directory_named(&DIRECTORY_NAME) == Some(1)
         && image.directory_named(&DIRECTORY_NAME[..13]).is_none();
-    assert!(rt; is_named && image.version() == 1 && image.directory() == Some(1));
+    assert!(rt; is_named && image.version() == 1 && image.pse() == Some(1));
     let mut out = ArrayVec::new();
     directory_fci(1, &mut out);
     let is_control = out.as_slice() == DIRECTORY_CONTROL.as_slice();

@@ -2,8 +2,8 @@
 use Rattle.std.proofs.Common.{◌≡◌, ℕ, suc, Bool, true, false, if◌then◌else◌, List, [], ◌∷◌, ◌++◌, Option, Some, None, option_map, ap, subst, sym, refl, ◌∙◌}
 use Rattle.apdu_core.specs.Response.{ResponseData, response_of}
 use Rattle.cvm_list.proofs.Walk.{settled_is}
-use Rattle.cvm_list.specs.Cvm.{Course, course, course_by, decides, deciding, after, verified, verdict}
-use Rattle.cvm_list.specs.Laws.{RulesBehindAreIdle, IsLeft, EntriesAreUsedOnce}
+use Rattle.cvm_list.specs.Cvm.{ReachedRules, course, course_by, is_deciding, deciding, found_after, verified, verified_by_rules}
+use Rattle.cvm_list.specs.Laws.{RulesBehindAreIdle, StandBehind, EntriesAreUsedOnce}
 use Rattle.cvm_list.specs.Rules.{method_of, supports}
 use Rattle.cvm_list.specs.Tried.{Trial, Known, Asks, Stops, tried, performed, pin_tried, online_tried, by_answer, by_said, said_of, unsupported}
 use Rattle.cvm_list.specs.declared.outcome.Found.{Found}
@@ -22,16 +22,16 @@ choice true d place x y z same is = refl
 choice false (Some q) place x y z same is = same q refl
 choice false None place x y z same is = cc
 
-by_trial : (t : Trial) (one two : List (List ℕ) → List (List ℕ) → Course) (found : Found) (answers : List (List ℕ)) (place : ℕ)
-    → ((found : Found) (pins rest : List (List ℕ)) (q : ℕ) → deciding (two pins rest).known ≡ Some q → verdict found (one pins rest) rest ≡ verdict found (two pins rest) rest)
+by_trial : (t : Trial) (one two : List (List ℕ) → List (List ℕ) → ReachedRules) (found : Found) (answers : List (List ℕ)) (place : ℕ)
+    → ((found : Found) (pins rest : List (List ℕ)) (q : ℕ) → deciding (two pins rest).known ≡ Some q → verified_by_rules found (one pins rest) rest ≡ verified_by_rules found (two pins rest) rest)
     → deciding (course_by t two).known ≡ Some place
-    → verdict found (course_by t one) answers ≡ verdict found (course_by t two) answers
+    → verified_by_rules found (course_by t one) answers ≡ verified_by_rules found (course_by t two) answers
 unfolding deciding
 by_trial (Known outcome pins rest) one two found answers place same is =
     settled_is found outcome one pins rest answers
-    ∙ choice (decides outcome) (deciding (two pins rest).known) place (Done (verified (after found outcome)) rest)
-    (verdict (after found outcome) (one pins rest) rest) (verdict (after found outcome) (two pins rest) rest)
-    (same (after found outcome) pins rest) is
+    ∙ choice (is_deciding outcome) (deciding (two pins rest).known) place (Done (verified (found_after found outcome)) rest)
+    (verified_by_rules (found_after found outcome) (one pins rest) rest) (verified_by_rules (found_after found outcome) (two pins rest) rest)
+    (same (found_after found outcome) pins rest) is
     ∙ sym (settled_is found outcome two pins rest answers)
 by_trial (Asks command) one two found answers place same is = cc
 by_trial (Stops cause) one two found answers place same is = cc
@@ -45,11 +45,11 @@ behind_idle caps (rule ∷ rules) more found pins answers place is =
 
 -- where a trial has an outcome, it leaves what stands behind what it took
 abbrev Leaves : List (List ℕ) → List (List ℕ) → Trial → Type 0
-Leaves pins answers (Known outcome left rest) = IsLeft pins left × IsLeft answers rest
+Leaves pins answers (Known outcome left rest) = StandBehind pins left × StandBehind answers rest
 Leaves pins answers (Asks command) = Unit {0}
 Leaves pins answers (Stops cause) = Unit {0}
 
-one_more : (pin : List ℕ) (pins left : List (List ℕ)) → IsLeft pins left → IsLeft (pin ∷ pins) left
+one_more : (pin : List ℕ) (pins left : List (List ℕ)) → StandBehind pins left → StandBehind (pin ∷ pins) left
 one_more pin pins left (taken, same) = (pin ∷ taken, ap (λ ps. pin ∷ ps) same)
 
 leaves_more : (t : Trial) (pin reply : List ℕ) (pins answers : List (List ℕ)) → Leaves pins answers t → Leaves (pin ∷ pins) (reply ∷ answers) t

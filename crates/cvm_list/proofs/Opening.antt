@@ -1,7 +1,7 @@
 -- How cardholder verification begins.
 use Rattle.std.proofs.Common.{◌≡◌, ℕ, ◌+◌, ◌-◌, ◌<◌, ◌≤◌, ◌==◌, Bool, false, if◌then◌else◌, List, [], ◌∷◌, length, drop, Option, Some, ap, sym, refl, ◌∙◌, bit_and, slice_index, arith, length-drop}
 use Rattle.cvm_list.specs.Begun.{by_list, by_rules, cvm, holding, passed, situation}
-use Rattle.cvm_list.specs.Cvm.{course, nothing_found, verdict}
+use Rattle.cvm_list.specs.Cvm.{course, nothing_found, verified_by_rules}
 use Rattle.cvm_list.specs.Rules.{rules_of}
 use Rattle.cvm_list.specs.declared.rule.Rule.{Rule}
 use Rattle.cvm_list.specs.declared.rule.Situation.{Situation}
@@ -28,7 +28,7 @@ no_rules list s purchase later v short is =
     ap rules (few_rules (drop 8 list) few) ∙ ap done (sym is)
 
 some_rules : (bytes : List ℕ) (s : Situation) (purchase : PurchaseData) (later : List (List ℕ)) → 2 ≤ length bytes
-    → by_rules (rules_of bytes) s purchase later ≡ verdict nothing_found (course s.caps (holding s (rules_of bytes)) purchase.pins later) later
+    → by_rules (rules_of bytes) s purchase later ≡ verified_by_rules nothing_found (course s.caps (holding s (rules_of bytes)) purchase.pins later) later
 unfolding rules_of
 some_rules [] s purchase later some = absurd (omega arith)
 some_rules (a ∷ []) s purchase later some = absurd (omega arith)
@@ -36,7 +36,7 @@ some_rules (a ∷ b ∷ more) s purchase later some = refl
 
 -- a list with rules
 pub with_rules : (list : List ℕ) (s : Situation) (purchase : PurchaseData) (later : List (List ℕ)) → 10 ≤ length list
-    → by_rules (rules_of (drop 8 list)) s purchase later ≡ verdict nothing_found (course s.caps (holding s (rules_of (drop 8 list))) purchase.pins later) later
+    → by_rules (rules_of (drop 8 list)) s purchase later ≡ verified_by_rules nothing_found (course s.caps (holding s (rules_of (drop 8 list))) purchase.pins later) later
 with_rules list s purchase later long =
     let some : 2 ≤ length (drop 8 list) = omega (arith, length-drop 8 list) in
     some_rules (drop 8 list) s purchase later some

@@ -19,6 +19,6 @@ LeavesPins (attempt.Known outcome left) = All HasPinLength left.now
 LeavesPins (attempt.Ask pin others) = HasPinLength pin.now × All HasPinLength others.now
 
 -- the entries that it takes or leaves
-abbrev pub entries_of : Attempt → ℕ
-entries_of (attempt.Known outcome left) = length left.now
-entries_of (attempt.Ask pin others) = 1 + length others.now
+abbrev pub pin_entries : Attempt → ℕ
+pin_entries (attempt.Known outcome left) = length left.now
+pin_entries (attempt.Ask pin others) = 1 + length others.now

@@ -2,7 +2,7 @@
 use Rattle.std.specs.Prelude.{ℕ, ◌+◌, ◌==◌, Bool, true, false, if◌then◌else◌, List, [], ◌∷◌, length, bit_and, drop, filter, slice_index, Option, Some, None}
 use Rattle.std.specs.Int.{from_be_bytes, w32}
 use Rattle.std.specs.Str.{bytes_eq}
-use Rattle.cvm_list.specs.Cvm.{course, nothing_found, verdict}
+use Rattle.cvm_list.specs.Cvm.{course, nothing_found, verified_by_rules}
 use Rattle.cvm_list.specs.Rules.{rules_of, holds}
 use Rattle.cvm_list.specs.declared.rule.Rule.{Rule}
 use Rattle.cvm_list.specs.declared.rule.Situation.{Situation}
@@ -45,7 +45,7 @@ passed bits = record { results = 0x3F ∷ 0x00 ∷ 0x00 ∷ []; tvr = record { 0
 
 abbrev pub by_rules : List Rule → Situation → PurchaseData → List (List ℕ) → Progress Verified
 by_rules [] s purchase answers = Done (passed (tvr_bit 1 6)) answers
-by_rules (rule ∷ rules) s purchase answers = verdict nothing_found (course s.caps (holding s (rule ∷ rules)) purchase.pins answers) answers
+by_rules (rule ∷ rules) s purchase answers = verified_by_rules nothing_found (course s.caps (holding s (rule ∷ rules)) purchase.pins answers) answers
 
 -- without a list, or with one without rules, an object is missing
 abbrev pub by_list : Option (List ℕ) → ReadCard → SettingsData → PurchaseData → List (List ℕ) → Progress Verified

@@ -1,7 +1,7 @@
 -- What holds of every list of rules.
 use Rattle.std.specs.Prelude.{◌≡◌, ℕ, ◌==◌, false, IsTrue, List, ◌++◌, bit_and, slice_index, Option, Some}
 use Rattle.object_lists.specs.CardRead.{ReadCard}
-use Rattle.cvm_list.specs.Cvm.{course, deciding, verdict}
+use Rattle.cvm_list.specs.Cvm.{course, deciding, verified_by_rules}
 use Rattle.cvm_list.specs.Tried.{Known, tried}
 use Rattle.cvm_list.specs.declared.outcome.Found.{Found}
 use Rattle.cvm_list.specs.declared.outcome.Outcome.{Outcome}
@@ -14,17 +14,17 @@ abbrev pub RulesBehindAreIdle : Type 0
 RulesBehindAreIdle =
     (caps : ℕ) (rules more : List Rule) (found : Found) (pins answers : List (List ℕ)) (place : ℕ)
     → deciding (course caps rules pins answers).known ≡ Some place
-    → verdict found (course caps (rules ++ more) pins answers) answers ≡ verdict found (course caps rules pins answers) answers
+    → verified_by_rules found (course caps (rules ++ more) pins answers) answers ≡ verified_by_rules found (course caps rules pins answers) answers
 
 -- these stand behind those that were taken from the front of the whole
-abbrev pub IsLeft : List (List ℕ) → List (List ℕ) → Type 0
-IsLeft whole left = (taken : List (List ℕ)) × (whole ≡ taken ++ left)
+abbrev pub StandBehind : List (List ℕ) → List (List ℕ) → Type 0
+StandBehind whole left = (taken : List (List ℕ)) × (whole ≡ taken ++ left)
 
 -- a rule takes entries and answers from the front, and leaves those behind them to the next one
 abbrev pub EntriesAreUsedOnce : Type 0
 EntriesAreUsedOnce =
     (caps : ℕ) (rule : Rule) (pins answers : List (List ℕ)) (outcome : Outcome) (left rest : List (List ℕ))
-    → tried caps rule pins answers ≡ Known outcome left rest → IsLeft pins left × IsLeft answers rest
+    → tried caps rule pins answers ≡ Known outcome left rest → StandBehind pins left × StandBehind answers rest
 
 -- no bit stands, and verification isn't performed
 abbrev pub IsPassedOver : VerifyNext → Type 0

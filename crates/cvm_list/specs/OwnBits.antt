@@ -9,18 +9,18 @@ use Rattle.object_lists.specs.CardRead.{ReadCard}
 
 -- the bits of this step (EMV 4.3 Book 3 Annex C5), the five bytes of the terminal verification results one behind
 -- another: bit 6 of the first byte, 8 to 3 of the third
-abbrev pub own_bits : ℕ
-own_bits = 0x2000FC0000
+abbrev pub verification_bits : ℕ
+verification_bits = 0x2000FC0000
 
 -- no bit stands outside them, at whichever place, counted from 0 at the right
-abbrev pub AreOwn : ℕ → Type 0
-AreOwn bits = (place : ℕ) → bit_at bits place ≤ bit_at own_bits place
+abbrev pub AreVerificationBits : ℕ → Type 0
+AreVerificationBits bits = (place : ℕ) → bit_at bits place ≤ bit_at verification_bits place
 
 -- no other bit is found
-abbrev pub FindsOwn : Progress Verified → Type 0
-FindsOwn (Wants command) = ⊤
-FindsOwn (Stopped cause) = ⊤
-FindsOwn (Done verified rest) = AreOwn verified.tvr.0
+abbrev pub FindsVerificationBits : Progress Verified → Type 0
+FindsVerificationBits (Wants command) = ⊤
+FindsVerificationBits (Stopped cause) = ⊤
+FindsVerificationBits (Done verified rest) = AreVerificationBits verified.tvr.0
 
-abbrev pub BitsAreOwn : Type 0
-BitsAreOwn = (card : ReadCard) (settings : SettingsData) (purchase : PurchaseData) (answers : List (List ℕ)) → FindsOwn (cvm card settings purchase answers)
+abbrev pub VerificationBitsAreOwn : Type 0
+VerificationBitsAreOwn = (card : ReadCard) (settings : SettingsData) (purchase : PurchaseData) (answers : List (List ℕ)) → FindsVerificationBits (cvm card settings purchase answers)

@@ -30,24 +30,24 @@ unfoldable pub method_of : Rule → Method
 method_of rule = method_by (rule.method % 64)
 
 -- b7 of a rule's first byte: where the method is unsuccessful, the next rule is applied
-abbrev pub goes_on : Rule → Bool
-goes_on rule = not (bit_and rule.method 0x40 == 0)
+abbrev pub applies_succeeding : Rule → Bool
+applies_succeeding rule = not (bit_and rule.method 0x40 == 0)
 
 -- a bit of the second byte of the terminal capabilities (9F33) (EMV 4.3 Book 4 Annex A2)
-abbrev pub has_bit : ℕ → ℕ → Bool
-has_bit byte mask = not (bit_and byte mask == 0)
+abbrev pub has_capability : ℕ → ℕ → Bool
+has_capability byte mask = not (bit_and byte mask == 0)
 
 -- the terminal supports the method: b8 plaintext PIN, b7 enciphered PIN for the issuer, b6 signature, b4 none; it never
 -- hands the card an enciphered PIN
 unfoldable pub supports : ℕ → Method → Bool
 supports caps Fail = true
-supports caps PlainPin = has_bit caps 0x80
-supports caps OnlinePin = has_bit caps 0x40
-supports caps PlainPinAndSignature = has_bit caps 0x80 && has_bit caps 0x20
+supports caps PlainPin = has_capability caps 0x80
+supports caps OnlinePin = has_capability caps 0x40
+supports caps PlainPinAndSignature = has_capability caps 0x80 && has_capability caps 0x20
 supports caps EncipheredPin = false
 supports caps EncipheredPinAndSignature = false
-supports caps Signature = has_bit caps 0x20
-supports caps NoCvm = has_bit caps 0x08
+supports caps Signature = has_capability caps 0x20
+supports caps NoCvm = has_capability caps 0x08
 supports caps Unrecognised = false
 
 -- cash at an unattended terminal (types 24 to 26), and at an attended one (21 to 23); a purchase with cashback

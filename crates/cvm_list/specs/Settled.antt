@@ -1,7 +1,7 @@
 -- One rule more behind what earlier rules found.
 use Rattle.std.specs.Prelude.{◌≡◌, ℕ, true, false, if◌then◌else◌, List, Option, option_map}
 use Rattle.apdu_core.specs.Response.{response_of}
-use Rattle.cvm_list.specs.Cvm.{Course, after, decides, verdict, verified}
+use Rattle.cvm_list.specs.Cvm.{ReachedRules, found_after, is_deciding, verified_by_rules, verified}
 use Rattle.cvm_list.specs.Tried.{said_of}
 use Rattle.cvm_list.specs.declared.outcome.Found.{Found}
 use Rattle.cvm_list.specs.declared.outcome.Outcome.{Outcome}
@@ -16,10 +16,10 @@ abbrev pub said_in : List ℕ → Option Said
 said_in reply = option_map (λ response. said_of response.status) (response_of reply)
 
 abbrev pub SettledIs : Found → Outcome → Settled → Type 0
-SettledIs found outcome (settled.GoesOn more) = (decides outcome ≡ false) × (more ≡ after found outcome)
-SettledIs found outcome (settled.Done result) = (decides outcome ≡ true) × (result ≡ verified (after found outcome))
+SettledIs found outcome (settled.GoesOn more) = (is_deciding outcome ≡ false) × (more ≡ found_after found outcome)
+SettledIs found outcome (settled.Done result) = (is_deciding outcome ≡ true) × (result ≡ verified (found_after found outcome))
 
 -- verification behind a rule with this outcome, where so many entries and answers are left
-abbrev pub rest_behind_rule : Found → Outcome → (List (List ℕ) → List (List ℕ) → Course) → List (List ℕ) → List (List ℕ) → Progress Verified
+abbrev pub rest_behind_rule : Found → Outcome → (List (List ℕ) → List (List ℕ) → ReachedRules) → List (List ℕ) → List (List ℕ) → Progress Verified
 rest_behind_rule found outcome behind pins rest =
-    if decides outcome then Done (verified (after found outcome)) rest else verdict (after found outcome) (behind pins rest) rest
+    if is_deciding outcome then Done (verified (found_after found outcome)) rest else verified_by_rules (found_after found outcome) (behind pins rest) rest

@@ -5,7 +5,7 @@ use Rattle.emv_dict.specs.declared.ending.Cause.{Cause}
 use Rattle.emv_dict.specs.declared.ending.Cause.TheVariants.{Answer}
 use Rattle.apdu_core.specs.Command.{command_bytes}
 use Rattle.apdu_core.specs.Response.{ResponseData, response_of}
-use Rattle.apdu_core.specs.Status.{no_error, authentication_blocked, data_invalidated, counter_in}
+use Rattle.apdu_core.specs.Status.{no_error, authentication_blocked, data_invalidated, status_counter}
 use Rattle.pin_block.specs.Block.{block_of}
 use Rattle.cvm_list.specs.Rules.{method_of, supports}
 use Rattle.cvm_list.specs.declared.outcome.Outcome.{Outcome}
@@ -29,7 +29,7 @@ said_by status None =
 -- what a status of VERIFY says: 9000 the PIN is right, 63Cx with x above 0 another entry may be tried, 63C0, 6983 and
 -- 6984 there is no try left
 abbrev pub said_of : ℕ → Said
-said_of status = said_by status (counter_in status)
+said_of status = said_by status (status_counter status)
 
 -- a method that isn't supported is unsuccessful and not performed
 abbrev pub unsupported_bits : Method → ℕ

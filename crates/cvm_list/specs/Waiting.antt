@@ -1,7 +1,7 @@
 -- A state of cardholder verification.
 use Rattle.std.specs.Prelude.{◌≡◌, ℕ, ◌+◌, ◌<◌, IsTrue, List, ◌∷◌, drop}
 use Rattle.std.specs.List.{All}
-use Rattle.cvm_list.specs.Cvm.{course, verdict}
+use Rattle.cvm_list.specs.Cvm.{course, verified_by_rules}
 use Rattle.cvm_list.specs.Plain.{asks_card}
 use Rattle.cvm_list.specs.declared.outcome.Found.{Found}
 use Rattle.cvm_list.specs.declared.rule.Rule.{Rule}
@@ -18,8 +18,8 @@ pub record VerifyingData : Type 0 where
   pub rules : List Rule
   pub pins : List (List ℕ)
 
-abbrev pub data_of : Inside → VerifyingData
-data_of s = record { found = s.found; caps = s.caps; rules = s.rule ∷ drop (s.at + 1) s.rules.items; pins = s.pin.now ∷ s.pins.now }
+abbrev pub verifying_data : Inside → VerifyingData
+verifying_data s = record { found = s.found; caps = s.caps; rules = s.rule ∷ drop (s.at + 1) s.rules.items; pins = s.pin.now ∷ s.pins.now }
 
 -- the present rule stands at its place and asks the card, and each entry has the length of a PIN
 pub record IsWaiting (s : Inside) : Type 0 where
@@ -30,5 +30,5 @@ pub record IsWaiting (s : Inside) : Type 0 where
   pub others : All HasPinLength s.pins.now
 
 -- what the rest makes of the answers to come
-abbrev pub rest_of : VerifyingData → List (List ℕ) → Progress Verified
-rest_of s answers = verdict s.found (course s.caps s.rules s.pins answers) answers
+abbrev pub verifying_rest : VerifyingData → List (List ℕ) → Progress Verified
+verifying_rest s answers = verified_by_rules s.found (course s.caps s.rules s.pins answers) answers

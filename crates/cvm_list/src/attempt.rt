@@ -1,7 +1,7 @@
 ghost use Rattle.std.specs.Prelude.{◌≡◌, ◌≤◌, length};
 ghost use Rattle.std.specs.List.{All};
 ghost use Rattle.emv_dict.specs.Digits.{HasPinLength};
-ghost use Rattle.cvm_list.specs.Attempts.{AttemptIs, LeavesPins, entries_of};
+ghost use Rattle.cvm_list.specs.Attempts.{AttemptIs, LeavesPins, pin_entries};
 
 use crate::outcome::{Outcome, failed, sent_online, successful, unsupported};
 use crate::rule::{Method, Rule, method_of, supports};
@@ -22,7 +22,7 @@ pub(crate) fn try_rule<'s>(caps: u8, rule: Rule, pins: &'s [Digits]) -> Attempt<
     requires { All HasPinLength pins.now }
     ensures is { AttemptIs caps rule pins.now result }
     ensures pins { LeavesPins result }
-    ensures few { entries_of result ≤ length pins.now }
+    ensures few { pin_entries result ≤ length pins.now }
 {
     let method = method_of(rule);
     if !supports(caps, method) {

@@ -1,6 +1,6 @@
 //! Laws of the rules of a list, each the contract of a function that does nothing.
 ghost use Rattle.cvm_list.specs.Laws.{RulesBehindAreIdle, EntriesAreUsedOnce};
-ghost use Rattle.cvm_list.specs.OwnBits.{BitsAreOwn};
+ghost use Rattle.cvm_list.specs.OwnBits.{VerificationBitsAreOwn};
 
 /// Where a rule decides, those behind it change nothing (EMV 4.3 Book 3 section 10.5).
 pub fn rules_behind_are_idle()
@@ -15,5 +15,5 @@ pub fn entries_are_used_once()
 
 /// No bit of another step stands in what verification finds (EMV 4.3 Book 3 Annex C5).
 pub fn bits_are_own()
-    ensures { BitsAreOwn }
+    ensures { VerificationBitsAreOwn }
 {}

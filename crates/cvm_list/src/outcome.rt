@@ -1,6 +1,6 @@
 ghost use Rattle.std.specs.Prelude.{◌≡◌, true, false, Option, Some, None, option_map};
 ghost use Rattle.apdu_core.specs.Response.{response_of};
-ghost use Rattle.cvm_list.specs.Cvm.{after, decides as is_deciding, verified as result_of};
+ghost use Rattle.cvm_list.specs.Cvm.{found_after, is_deciding, verified as result_of};
 ghost use Rattle.cvm_list.specs.Settled.{SettledIs, said_in};
 ghost use Rattle.cvm_list.specs.Tried as spec;
 
@@ -68,7 +68,7 @@ pub(crate) fn settle(found: Found, outcome: Outcome) -> Settled
 }
 
 fn joined(found: Found, outcome: Outcome) -> Found
-    ensures { result ≡ after found outcome }
+    ensures { result ≡ found_after found outcome }
 {
     let results = if outcome.performed {
         [outcome.rule.method, outcome.rule.condition, outcome.result]

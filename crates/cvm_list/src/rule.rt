@@ -94,7 +94,7 @@ pub(crate) fn supports(caps: u8, method: Method) -> bool
 
 /// Whether the next rule is applied where this one is unsuccessful.
 pub(crate) fn goes_on(rule: Rule) -> bool
-    ensures { result ≡ spec.goes_on rule }
+    ensures { result ≡ spec.applies_succeeding rule }
 {
     rule.method & 0x40 != 0
 }

@@ -1,14 +1,14 @@
 ghost use Rattle.std.specs.Prelude.{◌≡◌, ◌+◌, ◌≤◌, ◌<◌, ◌∷◌, ◌++◌, [], ℕ, List, length, drop, slice_index, option_map};
 ghost use Rattle.std.specs.List.{All};
 ghost use Rattle.cvm_list.specs.Begun as spec;
-ghost use Rattle.cvm_list.specs.Cvm.{course, nothing_found as found_before, verdict};
+ghost use Rattle.cvm_list.specs.Cvm.{course, nothing_found as found_before, verified_by_rules};
 ghost use Rattle.cvm_list.specs.Laws.{AsksForNone, IsPassedOver};
-ghost use Rattle.cvm_list.specs.NextIs.{NextLeads, entries_left};
+ghost use Rattle.cvm_list.specs.NextIs.{VerifyNextLeads, entries_left};
 ghost use Rattle.cvm_list.specs.Plain.{plain_result};
 ghost use Rattle.cvm_list.specs.Rules.{rules_of, method_of as rule_method};
 ghost use Rattle.cvm_list.specs.Settled.{rest_behind_rule};
 ghost use Rattle.cvm_list.specs.Tried.{verify_command};
-ghost use Rattle.cvm_list.specs.Waiting.{rest_of};
+ghost use Rattle.cvm_list.specs.Waiting.{verifying_rest};
 ghost use Rattle.emv_dict.specs.Digits.{HasPinLength};
 ghost use Rattle.emv_dict.specs.Progress.{Progress, Leads, Wants};
 ghost use Rattle.emv_dict.specs.declared.verified.Verified.{Verified};
@@ -26,7 +26,7 @@ use pin_block::plain_block;
 use std::marker::Model;
 
 /// Cardholder verification that waits for the card's answer to VERIFY. What the rest of it makes of
-/// the answers to come is `rest_of`.
+/// the answers to come is `verifying_rest`.
 #[derive(Drop)]
 pub struct Verifying<'s> {
     found: Found,
@@ -41,11 +41,11 @@ pub struct Verifying<'s> {
 }
 
 impl<'s> Model for Verifying<'s> {
-    ghost use Rattle.cvm_list.specs.Waiting.{VerifyingData, data_of, IsWaiting};
+    ghost use Rattle.cvm_list.specs.Waiting.{VerifyingData, verifying_data, IsWaiting};
 
     ghost Value = { VerifyingData };
 
-    ghost view = { data_of };
+    ghost view = { verifying_data };
 
     ghost invariant = { IsWaiting };
 }
@@ -66,7 +66,7 @@ impl<'s> Verifying<'s> {
     #[tactic(auto, unfolding(crate::specs::Begun::cvm))]
     pub fn begin(card: &CardData, settings: &Settings, purchase: &'s Purchase) -> VerifyNext<'s>
         requires pins { All HasPinLength purchase.now.pins }
-        ensures leads { NextLeads (spec.cvm card.now settings.now purchase.now) [] result }
+        ensures leads { VerifyNextLeads (spec.cvm card.now settings.now purchase.now) [] result }
         // A card that asks for no verification sets no bit.
         ensures passed_over { AsksForNone card.now → IsPassedOver result }
         ensures few { entries_left result ≤ length purchase.now.pins }
@@ -83,7 +83,7 @@ impl<'s> Verifying<'s> {
     /// Writes the command that the card is to answer, in place of what `out` held.
     #[tactic(auto, unfolding(crate::specs::Tried::verify_command))]
     pub fn ask(&self, out: &mut Out)
-        ensures { rest_of self.now [] ≡ Wants out.new.items }
+        ensures { verifying_rest self.now [] ≡ Wants out.new.items }
     {
         write_verify(self.pin, out);
     }
@@ -91,7 +91,7 @@ impl<'s> Verifying<'s> {
     /// Goes on with the card's answer.
     pub fn take(self, reply: &[u8]) -> VerifyNext<'s>
         ensures leads { (whole : List (List ℕ) → Progress Verified) (answers : List (List ℕ))
-            → Leads whole answers (rest_of self.entry) → NextLeads whole (answers ++ reply.now ∷ []) result }
+            → Leads whole answers (verifying_rest self.entry) → VerifyNextLeads whole (answers ++ reply.now ∷ []) result }
         // Each command takes an entry.
         ensures nearer { entries_left result < length self.entry.pins }
     {
@@ -154,7 +154,7 @@ fn write_verify(pin: &Digits, out: &mut Out)
 /// Tries the rules from a place on, until the card is to be asked or verification ends.
 fn walk<'s>(found: Found, caps: u8, rules: Rules, at: usize, pins: &'s [Digits]) -> VerifyNext<'s>
     requires { All HasPinLength pins.now }
-    ensures leads { NextLeads (λ later. verdict found (course caps (drop at rules.items) pins.now later) later) [] result }
+    ensures leads { VerifyNextLeads (λ later. verified_by_rules found (course caps (drop at rules.items) pins.now later) later) [] result }
     ensures few { entries_left result ≤ length pins.now }
 {
     if at >= rules.len() {
@@ -196,7 +196,7 @@ fn go_on<'s>(
     pins: &'s [Digits],
 ) -> VerifyNext<'s>
     requires { All HasPinLength pins.now }
-    ensures leads { NextLeads (rest_behind_rule found outcome (course caps (drop at rules.items)) pins.now) [] result }
+    ensures leads { VerifyNextLeads (rest_behind_rule found outcome (course caps (drop at rules.items)) pins.now) [] result }
     ensures few { entries_left result ≤ length pins.now }
 {
     match settle(found, outcome) {
@@ -215,7 +215,7 @@ fn with_list<'s>(
     requires least { 8 ≤ length list.now }
     requires most { length list.now ≤ 255 }
     requires pins { All HasPinLength purchase.now.pins }
-    ensures leads { NextLeads (spec.by_rules (rules_of (drop 8 list.now))
+    ensures leads { VerifyNextLeads (spec.by_rules (rules_of (drop 8 list.now))
         (spec.situation list.now (option_map (λ given. given.now) currency.entry) settings.now purchase.now) purchase.now) [] result }
     ensures few { entries_left result ≤ length purchase.now.pins }
 {

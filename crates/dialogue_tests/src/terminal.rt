@@ -1,6 +1,6 @@
 //! The card and the terminal of the worked dialogues.
 ghost use Rattle.std.specs.Prelude.{◌≡◌, IsTrue, length};
-ghost use Rattle.auth_message.specs.Accepted.{AreDigits};
+ghost use Rattle.auth_message.specs.Accepted.{AreDigitBytes};
 ghost use Rattle.auth_message.specs.Field.{are_digits as all_digits};
 ghost use Rattle.emv_dict.specs.Settings.{is_code};
 ghost use Rattle.online_step.specs.TerminalData.{object, HasTerminalData};
@@ -85,7 +85,7 @@ fn is_sized(env: &Env, tag: u32, count: usize) -> bool
 
 fn is_numeric(env: &Env, tag: u32, count: usize) -> bool
     ensures sized { IsTrue result → length (object tag env.now) ≡ count }
-    ensures digits { IsTrue result → AreDigits (object tag env.now) }
+    ensures digits { IsTrue result → AreDigitBytes (object tag env.now) }
 {
     match env.get(Tag(tag)) {
         Some(value) => value.len() == count && are_digits(value),

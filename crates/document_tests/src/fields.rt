@@ -1,39 +1,49 @@
 //! Reading a scenario's keys.
 use crate::facts::agree;
 use scenario_fields::place::{item_text, path_text};
-use scenario_fields::{Characters, Fields, LaneAt, Path, Place, ScenarioFault};
+use scenario_fields::{Characters, Fields, LaneAt, Path, ScenarioFault, TablePlace};
 use std::alloc::Global;
 use std::test::Fail;
 use toml::Table;
 
-const PLACES: [(Place, &str); 12] = [
-    (Place::Top, "copies"),
-    (Place::Issuer, "issuer.copies"),
-    (Place::Account(1), "account[1].copies"),
-    (Place::Scripts(0, 12), "account[0].scripts[12].copies"),
-    (Place::Card(63), "card[63].copies"),
-    (Place::App(1, 2), "card[1].app[2].copies"),
-    (Place::Record(0, 1, 3), "card[0].app[1].record[3].copies"),
-    (Place::Lane(LaneAt::Numbered(4)), "lane[4].copies"),
-    (Place::Aid(LaneAt::Numbered(1), 0), "lane[1].aid[0].copies"),
+const PLACES: [(TablePlace, &str); 12] = [
+    (TablePlace::Top, "copies"),
+    (TablePlace::Issuer, "issuer.copies"),
+    (TablePlace::Account(1), "account[1].copies"),
+    (TablePlace::Scripts(0, 12), "account[0].scripts[12].copies"),
+    (TablePlace::Card(63), "card[63].copies"),
+    (TablePlace::App(1, 2), "card[1].app[2].copies"),
     (
-        Place::Purchase(LaneAt::Numbered(0), 9999),
+        TablePlace::Record(0, 1, 3),
+        "card[0].app[1].record[3].copies",
+    ),
+    (TablePlace::Lane(LaneAt::Numbered(4)), "lane[4].copies"),
+    (
+        TablePlace::Aid(LaneAt::Numbered(1), 0),
+        "lane[1].aid[0].copies",
+    ),
+    (
+        TablePlace::Purchase(LaneAt::Numbered(0), 9999),
         "lane[0].purchase[9999].copies",
     ),
     (
-        Place::Tear(LaneAt::Numbered(2), 3),
+        TablePlace::Tear(LaneAt::Numbered(2), 3),
         "lane[2].purchase[3].tear.copies",
     ),
     (
-        Place::TerminalTear(LaneAt::Numbered(2), 3),
+        TablePlace::TerminalTear(LaneAt::Numbered(2), 3),
         "lane[2].purchase[3].terminal_tear.copies",
     ),
 ];
 
 /// A lane alone has no index.
-const PLACES_OF_ONE: [(Place, &str, &str); 2] = [
-    (Place::Lane(LaneAt::Only), "copies", "lane.copies"),
-    (Place::Aid(LaneAt::Only, 15), "name", "lane.aid[15].name"),
+const PLACES_OF_ONE: [(TablePlace, &str, &str); 2] = [
+    (TablePlace::Lane(LaneAt::Only), "copies", "lane.copies"),
+    (
+        TablePlace::Aid(LaneAt::Only, 15),
+        "name",
+        "lane.aid[15].name",
+    ),
 ];
 
 #[test]
@@ -72,7 +82,7 @@ fn document(alloc: Global, text: &str) -> Option<Table> {
 fn fields(alloc: Global, table: &Table) -> Fields {
     Fields {
         alloc,
-        place: Place::Issuer,
+        place: TablePlace::Issuer,
         table,
     }
 }
@@ -194,8 +204,10 @@ fn reads_arrays_and_tables(rt: HostRuntime) {
     let none = fields.array_or_none("g", 2).expect(&rt, "g");
     let digits = fields.digits_list("a", 2, 2, 3).expect(&rt, "a");
     let last = digits.last().expect(&rt, "digits");
-    let inner = fields.inner("t", Place::Issuer).expect(&rt, "t");
-    let absent = fields.optional_inner("s", Place::Issuer).expect(&rt, "s");
+    let inner = fields.inner("t", TablePlace::Issuer).expect(&rt, "t");
+    let absent = fields
+        .optional_inner("s", TablePlace::Issuer)
+        .expect(&rt, "s");
     agree(
         &rt,
         &[

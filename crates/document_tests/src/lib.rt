@@ -9,8 +9,8 @@ mod fields;
 #[cfg(test)]
 mod generation;
 #[cfg(test)]
-mod given_lines;
-#[cfg(test)]
 mod lines;
+#[cfg(test)]
+mod preambles;
 #[cfg(test)]
 mod traces;

@@ -7,8 +7,8 @@ abbrev pub has_digits : ℕ → Bool
 has_digits byte = is_decimal (byte / 16) && is_decimal (byte % 16)
 
 -- the number of a byte's two digits
-abbrev pub number_of : ℕ → ℕ
-number_of byte = byte / 16 * 10 + byte % 16
+abbrev pub number_of_bcd : ℕ → ℕ
+number_of_bcd byte = byte / 16 * 10 + byte % 16
 
 -- the byte of a number's two digits
 abbrev pub two_digits : ℕ → ℕ

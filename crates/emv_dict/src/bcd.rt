@@ -1,6 +1,6 @@
 ghost use Rattle.std.specs.Prelude.{◌≡◌, ℕ, ◌+◌, ◌*◌, ◌/◌, ◌%◌, ◌≤◌, length, IsTrue};
 ghost use Rattle.std.specs.List.{All};
-ghost use Rattle.emv_dict.specs.Bcd.{has_digits as is_digits, number_of, two_digits as digits_of, number_in, numeric};
+ghost use Rattle.emv_dict.specs.Bcd.{has_digits as is_digits, number_of_bcd, two_digits as digits_of, number_in, numeric};
 ghost use Rattle.emv_dict.specs.Settings.{most_amount, is_code as is_iso_code};
 
 /// The greatest amount of 12 decimal digits (EMV 4.3 Book 3 Annex A, tag 9F02).
@@ -15,7 +15,7 @@ pub fn has_digits(byte: u8) -> bool
 
 /// The number of the byte's two digits; a half above 9 counts as its value.
 pub fn two_digit_number(byte: u8) -> u8
-    ensures { result ≡ number_of byte }
+    ensures { result ≡ number_of_bcd byte }
 {
     byte / 16 * 10 + byte % 16
 }
@@ -25,7 +25,7 @@ pub fn two_digits(number: u8) -> u8
     requires { number ≤ 99 }
     ensures digits { result ≡ digits_of number }
     ensures decimal { IsTrue (is_digits result) }
-    ensures read_again { number_of result ≡ number }
+    ensures read_again { number_of_bcd result ≡ number }
 {
     number / 10 * 16 + number % 10
 }

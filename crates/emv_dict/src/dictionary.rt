@@ -1,6 +1,6 @@
 ghost use Rattle.std.specs.Prelude.{◌≡◌, map};
 ghost use Rattle.emv_dict.specs.Dictionary.{row_in, dictionary};
-ghost use Rattle.emv_dict.specs.Listing.{listed};
+ghost use Rattle.emv_dict.specs.Listing.{listed_row};
 
 use ber_tlv::Tag;
 
@@ -100,7 +100,7 @@ pub fn tag_row(tag: Tag) -> Option<Row>
 /// The row of the first object of this tag.
 #[tactic(auto, unfolding(crate::specs::Dictionary::row_in))]
 fn row_among(objects: &[Object], tag: Tag) -> Option<Row>
-    ensures { result ≡ row_in (map listed objects.now) tag.0 }
+    ensures { result ≡ row_in (map listed_row objects.now) tag.0 }
 {
     for object in objects {
         if object.0 == tag.0 {

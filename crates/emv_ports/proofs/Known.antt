@@ -59,8 +59,8 @@ same_cells (Sure b ∷ old) (Sure c ∷ new) same sure =
     let rest : map sure_of new ≡ map sure_of old = cc in
     let byte : c ≡ b = cc in
     ap (λ (x : ℕ). Sure x ∷ new) byte ∙ ap (λ (l : List Cell). Sure b ∷ l) (same_cells old new rest sure)
-same_cells (Sure b ∷ old) (Unsure t g ∷ new) same sure = (cc)
-same_cells (Unsure t g ∷ old) (n ∷ new) same sure = (cc)
+same_cells (Sure b ∷ old) (Unsure t k g ∷ new) same sure = (cc)
+same_cells (Unsure t k g ∷ old) (n ∷ new) same sure = (cc)
 
 -- pages with the same sure cells, where all are sure, are the same
 pub same_pages : (old new : List (List Cell)) → map (map sure_of) new ≡ map (map sure_of) old → IsTrue (list_all is_sure_page old) → new ≡ old

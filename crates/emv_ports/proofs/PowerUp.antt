@@ -10,7 +10,7 @@ use Rattle.std.specs.List.{list_all}
 use Rattle.emv_ports.specs.Cell.{sure_of, given_of, all_torn_over, settled_from, gives_byte, is_page}
 use Rattle.emv_ports.specs.Causes.{one_more}
 use Rattle.emv_ports.specs.Cut.{is_plan}
-use Rattle.emv_ports.specs.Memory.{Memory, PowersUp, next, written, torn, torn_page}
+use Rattle.emv_ports.specs.Memory.{Memory, PowersUp, next, page_written, page_torn, torn_page}
 use Rattle.emv_ports.specs.declared.memory_pages.Cell.{Cell}
 use Rattle.emv_ports.specs.declared.memory_pages.Cell.TheVariants.{Sure}
 use Rattle.emv_ports.specs.declared.tear.Tear.{Tear}
@@ -57,7 +57,7 @@ pub writes_page : (cells : List (List Cell)) (page : ℕ) (bytes : List ℕ) (su
     → sure ≡ map Sure bytes → writes' ≡ next writes
     → let old : Memory = record { cells = map (map sure_of) cells; shown = map (map given_of) cells; on = on; plan = plan; commit = commit; writes = writes; losses = losses; power_ups = power_ups } in
     let new : Memory = record { cells = map (map sure_of) (set cells page sure); shown = map (map given_of) (set cells page sure); on = on; plan = plan; commit = commit; writes = writes'; losses = losses; power_ups = power_ups } in
-    new ≡ written old page bytes
+    new ≡ page_written old page bytes
 writes_page cells page bytes sure on plan commit writes writes' losses power_ups is count =
     let sures : map sure_of sure ≡ map Some bytes = ap (map sure_of) is ∙ map-map sure_of Sure bytes in
     let givens : map given_of sure ≡ bytes = ap (map given_of) is ∙ map-map given_of Sure bytes ∙ map-id bytes in
@@ -70,7 +70,7 @@ pub tears_page : (cells : List (List Cell)) (page : ℕ) (bytes : List ℕ) (tor
     → torn_cells ≡ all_torn_over (get_or cells page []) bytes
     → let old : Memory = record { cells = map (map sure_of) cells; shown = map (map given_of) cells; on = on; plan = plan; commit = commit; writes = writes; losses = losses; power_ups = power_ups } in
     let new : Memory = record { cells = map (map sure_of) (set cells page torn_cells); shown = map (map given_of) (set cells page torn_cells); on = on; plan = plan; commit = commit; writes = writes; losses = losses; power_ups = power_ups } in
-    new ≡ torn old page bytes
+    new ≡ page_torn old page bytes
 tears_page cells page bytes torn_cells on plan commit writes losses power_ups is =
     let sures : map sure_of torn_cells ≡ torn_page (get_or (map (map sure_of) cells) page []) bytes =
     ap (map sure_of) is ∙ sure_of-all_torn (get_or cells page []) bytes

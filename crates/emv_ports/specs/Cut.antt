@@ -18,9 +18,9 @@ is_plan None = true
 is_plan (Some tear) = is_place tear.at
 
 -- the plan names this commit
-abbrev pub is_named : Option Tear → ℕ → Bool
-is_named None commit = false
-is_named (Some tear) commit = tear.commit == commit
+abbrev pub names_commit : Option Tear → ℕ → Bool
+names_commit None commit = false
+names_commit (Some tear) commit = tear.commit == commit
 
 -- what the place of a tear makes of this write
 abbrev pub cut_at : TearAt → ℕ → Cut
@@ -34,19 +34,19 @@ write_cut None commit number = Spared
 write_cut (Some tear) commit number = if tear.commit == commit then cut_at tear.at number else Spared
 
 -- the place is one of the first writes
-abbrev pub is_among : TearAt → ℕ → Bool
-is_among (Before planned) writes = nat_le planned writes
-is_among (Within planned) writes = nat_le planned writes
-is_among Release writes = false
+abbrev pub is_within_writes : TearAt → ℕ → Bool
+is_within_writes (Before planned) writes = nat_le planned writes
+is_within_writes (Within planned) writes = nat_le planned writes
+is_within_writes Release writes = false
 
 -- the plan cuts one of the first writes of this commit
 abbrev pub cuts_among : Option Tear → ℕ → ℕ → Bool
 cuts_among None commit writes = false
-cuts_among (Some tear) commit writes = tear.commit == commit && is_among tear.at writes
+cuts_among (Some tear) commit writes = tear.commit == commit && is_within_writes tear.at writes
 
 -- What the plan makes of a release behind these writes of this commit: a plan that names the commit and has cut
 -- none of them cuts the release.
 abbrev pub release_cut : Option Tear → ℕ → ℕ → Cut
 release_cut None commit writes = Spared
 release_cut (Some tear) commit writes =
-    if tear.commit == commit then (if is_among tear.at writes then Spared else CutBefore) else Spared
+    if tear.commit == commit then (if is_within_writes tear.at writes then Spared else CutBefore) else Spared

@@ -3,6 +3,7 @@ pub mod Cell
 pub mod Cut
 pub mod Growth
 pub mod Memory
+pub mod Moving
 pub mod MemoryPages
 pub mod PageReading
 pub mod Reading

@@ -1,10 +1,10 @@
 -- The memory of a card, 64 pages of 64 cells, and what each call of `Pages` makes of it.
-use Rattle.std.specs.Prelude.{◌≡◌, ◌⊎◌, ℕ, ◌+◌, ◌<◌, min, Bool, true, false, List, [], ◌∷◌, map, length, slice_index_or, slice_set, replicate, Option, Some, None, IsTrue, ◌==◌, if◌then◌else◌}
+use Rattle.std.specs.Prelude.{◌≡◌, ◌⊎◌, ℕ, ◌+◌, ◌<◌, min, Bool, true, false, List, [], ◌∷◌, map, length, slice_index_or, slice_set, replicate, Option, Some, None, IsTrue, OnOk, OnErr, Result, ◌==◌, if◌then◌else◌}
 use Rattle.emv_ports.specs.Causes.{one_more}
 use Rattle.emv_ports.specs.Cut.{is_plan, write_cut, release_cut}
 use Rattle.emv_ports.specs.PageReading.{Reading}
 use Rattle.emv_ports.specs.declared.tear.Cut.{Cut}
-use Rattle.emv_ports.specs.declared.tear.Cut.TheVariants.{CutBefore, CutWithin}
+use Rattle.emv_ports.specs.declared.tear.Cut.TheVariants.{Spared, CutBefore, CutWithin}
 use Rattle.emv_ports.specs.declared.tear.Tear.{Tear}
 
 pub record Memory : Type 0 where
@@ -44,12 +44,12 @@ abbrev pub powered_off : Memory → Memory
 powered_off m = record m { on = false; plan = None }
 
 -- a commit begins
-abbrev pub marked : Memory → Memory
-marked m = record m { commit = next m.commit; writes = 0 }
+abbrev pub commit_marked : Memory → Memory
+commit_marked m = record m { commit = next m.commit; writes = 0 }
 
 -- the page's cells are sure of the bytes
-abbrev pub written : Memory → ℕ → List ℕ → Memory
-written m page bytes =
+abbrev pub page_written : Memory → ℕ → List ℕ → Memory
+page_written m page bytes =
     record m {
       cells = slice_set m.cells page (map Some bytes);
       shown = slice_set m.shown page bytes;
@@ -67,8 +67,8 @@ torn_page (cell ∷ cells) [] = cell ∷ cells
 torn_page (cell ∷ cells) (byte ∷ bytes) = torn_cell cell byte ∷ torn_page cells bytes
 
 -- each cell of the page that isn't sure of its new byte already is unsure
-abbrev pub torn : Memory → ℕ → List ℕ → Memory
-torn m page bytes =
+abbrev pub page_torn : Memory → ℕ → List ℕ → Memory
+page_torn m page bytes =
     record m { cells = slice_set m.cells page (torn_page (slice_index_or m.cells page []) bytes) }
 
 -- the power is lost
@@ -86,7 +86,20 @@ next_release_cut m = release_cut m.plan m.commit m.writes
 -- what a write leaves that is cut
 abbrev pub CutWrite : Memory → ℕ → List ℕ → Memory → Type 0
 CutWrite old page bytes new =
-    ((next_write_cut old ≡ CutBefore) × (new ≡ gone old)) ⊎ ((next_write_cut old ≡ CutWithin) × (new ≡ gone (torn old page bytes)))
+    ((next_write_cut old ≡ CutBefore) × (new ≡ gone old)) ⊎ ((next_write_cut old ≡ CutWithin) × (new ≡ gone (page_torn old page bytes)))
+
+-- a write of a page, which the plan spares or cuts
+pub record WritesPage {T E : Type 0} (old : Memory) (page : ℕ) (bytes : List ℕ) (new : Memory) (result : Result T E) : Type 0 where
+  pub spared : OnOk result (next_write_cut old ≡ Spared)
+  pub written : OnOk result (new ≡ page_written old page bytes)
+  pub cut : OnErr result (CutWrite old page bytes new)
+
+-- a release, which the plan spares or cuts
+pub record ReleasesPages {T E : Type 0} (old new : Memory) (result : Result T E) : Type 0 where
+  pub spared : OnOk result (next_release_cut old ≡ Spared)
+  pub same : OnOk result (new ≡ old)
+  pub cut : OnErr result (next_release_cut old ≡ CutBefore)
+  pub gone : OnErr result (new ≡ gone old)
 
 -- off, each cell sure of 00, no tear planned and no loss: what blank pages are, whatever they gave or counted last
 pub record IsBlank (m : Memory) : Type 0 where

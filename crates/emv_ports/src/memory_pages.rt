@@ -3,7 +3,7 @@ ghost use Rattle.std.specs.Prelude.{◌≡◌, ◌<◌, map, length, unwrap_or, 
 ghost use Rattle.std.specs.List.{list_all};
 ghost use Rattle.emv_ports.specs.Cut.{is_plan, write_cut, release_cut};
 ghost use Rattle.emv_ports.specs.Cell.{sure_of, given_of, is_sure, gives_byte, is_page, is_sure_page};
-ghost use Rattle.emv_ports.specs.Cell.{settled, settled_from, torn_over, all_torn_over};
+ghost use Rattle.emv_ports.specs.Cell.{cell_turned_on, settled_from, torn_over, all_torn_over, SettlesPages};
 ghost use Rattle.emv_ports.specs.Rough.{rough_byte, rough_page, rough_pages};
 ghost use Rattle.emv_ports.specs.declared.memory_pages.Cell.TheVariants.{Sure};
 
@@ -14,9 +14,9 @@ use std::marker::Model;
 #[derive(Clone, Copy, Debug, PartialEq, Eq)]
 enum Cell {
     Sure(u8),
-    /// `torn` is the byte of the torn write, and `given` the one that the cell gives until the
-    /// next power-up.
-    Unsure { torn: u8, given: u8 },
+    /// `torn` is the byte of the torn write, `kept` the one that the cell gave when it was torn, and
+    /// `given` which of them it gives until the next power-up.
+    Unsure { torn: u8, kept: u8, given: u8 },
 }
 
 impl Cell {
@@ -46,21 +46,30 @@ impl Cell {
                 } else {
                     Cell::Unsure {
                         torn: byte,
+                        kept: sure,
                         given: sure,
                     }
                 }
             }
-            Cell::Unsure { given, .. } => Cell::Unsure { torn: byte, given },
+            Cell::Unsure { given, .. } => Cell::Unsure {
+                torn: byte,
+                kept: given,
+                given,
+            },
         }
     }
 
     fn settled(self, in_turn: bool) -> Cell
-        ensures cell { result ≡ settled in_turn self }
+        ensures cell { result ≡ cell_turned_on in_turn self }
         ensures byte { IsTrue (gives_byte result) }
     {
         match self {
-            Cell::Unsure { torn, .. } if in_turn => Cell::Unsure { torn, given: torn },
-            _ => self,
+            Cell::Sure(_) => self,
+            Cell::Unsure { torn, kept, .. } => Cell::Unsure {
+                torn,
+                kept,
+                given: if in_turn { torn } else { kept },
+            },
         }
     }
 
@@ -70,7 +79,11 @@ impl Cell {
         ensures given { given_of result ≡ unwrap_or (sure_of self) byte }
     {
         match self {
-            Cell::Unsure { torn, .. } => Cell::Unsure { torn, given: byte },
+            Cell::Unsure { torn, kept, .. } => Cell::Unsure {
+                torn,
+                kept,
+                given: byte,
+            },
             Cell::Sure(_) => self,
         }
     }
@@ -149,10 +162,7 @@ fn settle_page(cells: &mut [Cell; 64], power_up: u8) -> bool
 /// As `settle_page` for each page.
 fn settle(pages: &mut [[Cell; 64]; 64], power_up: u8) -> bool
     requires { power_up < 2 }
-    ensures cells { pages.new ≡ map (settled_from power_up 0) pages.old }
-    ensures long { length pages.new ≡ 64 }
-    ensures pages { IsTrue (list_all is_page pages.new) }
-    ensures sure { result ≡ false → IsTrue (list_all is_sure_page pages.new) }
+    ensures { SettlesPages power_up pages.old pages.new result }
 {
     let mut torn = false;
     for page in 0..64 {
@@ -165,10 +175,7 @@ fn settle(pages: &mut [[Cell; 64]; 64], power_up: u8) -> bool
 fn settle_if(torn: bool, pages: &mut [[Cell; 64]; 64], power_up: u8) -> bool
     requires turn { power_up < 2 }
     requires sure { torn ≡ false → IsTrue (list_all is_sure_page pages.old) }
-    ensures cells { pages.new ≡ map (settled_from power_up 0) pages.old }
-    ensures long { length pages.new ≡ 64 }
-    ensures pages { IsTrue (list_all is_page pages.new) }
-    ensures sure { result ≡ false → IsTrue (list_all is_sure_page pages.new) }
+    ensures settles { SettlesPages power_up pages.old pages.new result }
 {
     if !torn {
         return false;
@@ -233,7 +240,7 @@ fn release_cut(plan: Option<Tear>, commit: u8, writes: u8) -> Cut
 
 /// Card pages in memory. At power-up number n, counted from 1 since they were made, the unsure
 /// cell i of a page gives the torn write's byte where i + n is even, else the byte that it gave
-/// last.
+/// when it was torn.
 #[derive(Drop)]
 pub struct MemoryPages {
     cells: [[Cell; 64]; 64],
@@ -269,15 +276,14 @@ impl Model for MemoryPages {
 }
 
 impl MemoryPages {
-    ghost use Rattle.emv_ports.specs.Memory.{IsBlank, blank_memory, gone, torn};
+    ghost use Rattle.emv_ports.specs.Memory.{IsBlank, blank_memory, gone, page_torn};
     ghost use Rattle.emv_ports.specs.Rough.{rough_pages};
     ghost use Rattle.emv_ports.specs.Workings.{blank_workings, torn_workings};
 
     /// Pages that are off, every cell sure of 00, no tear planned and no loss.
     pub fn blank() -> MemoryPages
         ensures blank { IsBlank result.memory }
-        ensures memory { result.memory ≡ blank_memory }
-        ensures workings { result.workings ≡ blank_workings }
+        ensures value { result ≡ record { memory = blank_memory; workings = blank_workings } }
     {
         MemoryPages {
             cells: [[Cell::Sure(0); 64]; 64],
@@ -326,7 +332,7 @@ impl MemoryPages {
 
     fn tear(&mut self, page: u8, bytes: &[u8; 64])
         requires { page < 64 }
-        ensures memory { self.new.memory ≡ torn self.old.memory page bytes.now }
+        ensures memory { self.new.memory ≡ page_torn self.old.memory page bytes.now }
         ensures workings { self.new.workings ≡ torn_workings self.old.workings page bytes.now }
     {
         let cells = self.cells[page as usize];
@@ -335,8 +341,7 @@ impl MemoryPages {
     }
 
     fn lose(&mut self)
-        ensures memory { self.new.memory ≡ gone self.old.memory }
-        ensures workings { self.new.workings ≡ self.old.workings }
+        ensures { self.new ≡ record self.old { memory = gone self.old.memory } }
     {
         self.power_off();
         self.losses = self.losses.saturating_add(1);
@@ -346,18 +351,17 @@ impl MemoryPages {
 impl Pages for MemoryPages {
     ghost use Rattle.std.specs.Prelude.{◌≡◌, ◌<◌, IsTrue, OnOk, OnErr};
     ghost use Rattle.emv_ports.specs.Cut.{is_plan};
-    ghost use Rattle.emv_ports.specs.Memory.{planned, PowersUp, powered_off, marked, gone};
-    ghost use Rattle.emv_ports.specs.Memory.{next_write_cut, next_release_cut, written, CutWrite};
+    ghost use Rattle.emv_ports.specs.Memory.{planned, PowersUp, powered_off, commit_marked};
+    ghost use Rattle.emv_ports.specs.Memory.{next_write_cut, WritesPage, ReleasesPages};
     ghost use Rattle.emv_ports.specs.Workings.{turned_on, marked_once};
     ghost use Rattle.emv_ports.specs.Workings.{written_once, called_once, torn_once};
-    ghost use Rattle.emv_ports.specs.declared.tear.Cut.TheVariants.{Spared, CutBefore, CutWithin};
+    ghost use Rattle.emv_ports.specs.declared.tear.Cut.TheVariants.{CutBefore, CutWithin};
 
     ghost memory = { λ pages. pages.memory };
 
     fn plan(&mut self, tear: Option<Tear>)
         requires { IsTrue (is_plan tear) }
-        ensures memory { self.new.memory ≡ planned self.old.memory tear }
-        ensures workings { self.new.workings ≡ self.old.workings }
+        ensures { self.new ≡ record self.old { memory = planned self.old.memory tear } }
     {
         self.plan = tear;
     }
@@ -376,8 +380,7 @@ impl Pages for MemoryPages {
     }
 
     fn power_off(&mut self)
-        ensures memory { self.new.memory ≡ powered_off self.old.memory }
-        ensures workings { self.new.workings ≡ self.old.workings }
+        ensures { self.new ≡ record self.old { memory = powered_off self.old.memory } }
     {
         self.on = false;
         self.plan = None;
@@ -388,8 +391,7 @@ impl Pages for MemoryPages {
     }
 
     fn mark(&mut self)
-        ensures memory { self.new.memory ≡ marked self.old.memory }
-        ensures workings { self.new.workings ≡ marked_once self.old.workings }
+        ensures { self.new ≡ record { memory = commit_marked self.old.memory; workings = marked_once self.old.workings } }
     {
         self.marks = self.marks.saturating_add(1);
         self.commit = self.commit.saturating_add(1);
@@ -398,14 +400,8 @@ impl Pages for MemoryPages {
 
     fn write(&mut self, page: u8, bytes: &[u8; 64]) -> Result<(), Gone>
         requires { page < 64 }
-        ensures spared { OnOk result (next_write_cut self.old.memory ≡ Spared) }
-        ensures written { OnOk result
-            (self.new.memory ≡ written self.old.memory page bytes.now) }
-        ensures cut { OnErr result
-            (CutWrite self.old.memory page bytes.now self.new.memory) }
-
-        ensures workings { OnOk result
-            (self.new.workings ≡ written_once self.old.workings page bytes.now) }
+        ensures writes { WritesPage self.old.memory page bytes.now self.new.memory result }
+        ensures workings { OnOk result (self.new.workings ≡ written_once self.old.workings page bytes.now) }
         ensures before { OnErr result (next_write_cut self.old.memory ≡ CutBefore
             → self.new.workings ≡ called_once self.old.workings) }
         ensures within { OnErr result (next_write_cut self.old.memory ≡ CutWithin
@@ -432,11 +428,7 @@ impl Pages for MemoryPages {
     }
 
     fn release(&mut self) -> Result<(), Gone>
-        ensures spared { OnOk result (next_release_cut self.old.memory ≡ Spared) }
-        ensures same { OnOk result (self.new.memory ≡ self.old.memory) }
-        ensures cut { OnErr result (next_release_cut self.old.memory ≡ CutBefore) }
-        ensures gone { OnErr result (self.new.memory ≡ gone self.old.memory) }
-
+        ensures releases { ReleasesPages self.old.memory self.new.memory result }
         ensures workings { self.new.workings ≡ self.old.workings }
     {
         match release_cut(self.plan, self.commit, self.writes_of_commit) {

@@ -1,8 +1,9 @@
-ghost use Rattle.std.specs.Prelude.{◌≡◌, ℕ, List, Some, [], ◌+◌, ◌-◌, ◌^◌, ◌≤◌, ◌<◌, ◌++◌, ◌↔◌, ◌⊎◌, min, length, Contains, IsErr, IfOk, OnErr};
+//! A sink over memory.
+ghost use Rattle.std.specs.Prelude.{◌≡◌, ℕ, List, Some, ◌+◌, ◌-◌, ◌^◌, ◌≤◌, ◌<◌, ◌++◌, ◌↔◌, ◌⊎◌, min, length, Contains, IsErr, IfOk, OnErr};
 ghost use Rattle.std.specs.declared.option.Option.{Option};
-ghost use Rattle.std.specs.Io.{WritesAtMost};
-ghost use Rattle.std.specs.Io.KnownBytes.{WriteAppends};
-ghost use Rattle.emv_ports.specs.Causes.{HasCause, one_more};
+ghost use Rattle.emv_ports.specs.Causes.{one_more};
+ghost use Rattle.emv_ports.specs.Moving.{WritesSink};
+ghost use Rattle.emv_ports.specs.State.{CountsWrite};
 
 use crate::memory_source::is_numbered;
 use crate::{Failed, Sink};
@@ -33,15 +34,12 @@ impl Model for MemorySink {
 }
 
 impl MemorySink {
+    ghost use Rattle.emv_ports.specs.State.{new_sink};
+
     /// An empty sink that can hold `room` bytes, all of them reserved now. The calls of `write`
     /// with these numbers fail; the first call is number 1.
     pub fn new(alloc: Global, room: usize, fails: Vec<u32>) -> Result<MemorySink, AllocError>
-        ensures held { IfOk result (λ s. s.held ≡ []) }
-        ensures room { IfOk result (λ s. s.room ≡ room) }
-        ensures most { IfOk result (λ s. s.most ≡ 2 ^ 64 - 1) }
-        ensures fails { IfOk result (λ s. s.fails ≡ fails.items) }
-        ensures calls { IfOk result (λ s. s.calls ≡ 0) }
-        ensures faults { IfOk result (λ s. s.faults ≡ 0) }
+        ensures { IfOk result (λ s. s ≡ new_sink room fails.items (2 ^ 64 - 1)) }
     {
         MemorySink::slow(alloc, room, fails, usize::MAX)
     }
@@ -54,12 +52,7 @@ impl MemorySink {
         most: usize,
     ) -> Result<MemorySink, AllocError>
         requires most { 0 < most }
-        ensures held { IfOk result (λ s. s.held ≡ []) }
-        ensures room { IfOk result (λ s. s.room ≡ room) }
-        ensures most { IfOk result (λ s. s.most ≡ most) }
-        ensures fails { IfOk result (λ s. s.fails ≡ fails.items) }
-        ensures calls { IfOk result (λ s. s.calls ≡ 0) }
-        ensures faults { IfOk result (λ s. s.faults ≡ 0) }
+        ensures { IfOk result (λ s. s ≡ new_sink room fails.items most) }
     {
         Ok(MemorySink {
             bytes: Vec::with_capacity(alloc, room)?,
@@ -79,12 +72,7 @@ impl MemorySink {
     }
 
     fn fail(&mut self) -> Failed
-        ensures held { self.new.held ≡ self.old.held }
-        ensures room { self.new.room ≡ self.old.room }
-        ensures most { self.new.most ≡ self.old.most }
-        ensures fails { self.new.fails ≡ self.old.fails }
-        ensures calls { self.new.calls ≡ self.old.calls }
-        ensures faults { self.new.faults ≡ one_more self.old.faults }
+        ensures { self.new ≡ record self.old { faults = one_more self.old.faults } }
     {
         self.faults = self.faults.saturating_add(1);
         Failed
@@ -98,15 +86,10 @@ impl Sink for MemorySink {
 
     /// Takes as much as fits, up to the most of one call.
     fn write(&mut self, piece: &[u8]) -> Result<usize, Failed>
-        ensures bound { WritesAtMost result piece.now }
-        ensures bytes { WriteAppends (Some self.old.held) (Some self.new.held) result piece.now }
-        ensures takes { 0 < length piece.now → IfOk result (λ n. 0 < n) }
-        ensures cause { HasCause self.old.faults self.new.faults result }
+        ensures writes { WritesSink (Some self.old.held) (Some self.new.held) self.old.faults self.new.faults piece.now result }
         ensures exactly { IsErr result ↔ (Contains self.old.fails self.new.calls ⊎ ((0 < length piece.now) × (self.old.room ≤ length self.old.held))) }
         ensures fits { IfOk result (λ n. n ≡ min self.old.most (min (length piece.now) (self.old.room - length self.old.held))) }
-        ensures calls { self.new.calls ≡ one_more self.old.calls }
-        ensures faults { OnErr result (self.new.faults ≡ one_more self.old.faults) }
-        ensures kept { (self.new.fails ≡ self.old.fails) × (self.new.room ≡ self.old.room) × (self.new.most ≡ self.old.most) }
+        ensures counts { CountsWrite self.old self.new result }
     {
         self.calls = self.calls.saturating_add(1);
         if is_numbered(&self.fails, self.calls) {

@@ -1,8 +1,8 @@
+//! A source over memory.
 ghost use Rattle.std.specs.Prelude.{◌≡◌, ℕ, List, Some, ◌+◌, ◌-◌, ◌^◌, ◌≤◌, ◌<◌, ◌++◌, ◌↔◌, min, length, take, drop, Contains, IsTrue, IsErr, IfOk, OnErr};
 ghost use Rattle.std.specs.declared.option.Option.{Option};
-ghost use Rattle.std.specs.Io.{ReadsAtMost};
-ghost use Rattle.std.specs.Io.KnownBytes.{ReadConsumes};
-ghost use Rattle.emv_ports.specs.Causes.{HasCause, one_more};
+ghost use Rattle.emv_ports.specs.Moving.{ReadsSource};
+ghost use Rattle.emv_ports.specs.State.{CountsRead};
 
 use crate::{Failed, Source};
 use std::marker::Model;
@@ -30,14 +30,12 @@ impl Model for MemorySource {
 }
 
 impl MemorySource {
+    ghost use Rattle.emv_ports.specs.State.{new_source};
+
     /// A source with these bytes left, that gives as many a call as fit. The calls of `read` with
     /// these numbers fail; the first call is number 1.
     pub fn new(bytes: Vec<u8>, fails: Vec<u32>) -> MemorySource
-        ensures left { result.left ≡ bytes.items }
-        ensures most { result.most ≡ 2 ^ 64 - 1 }
-        ensures fails { result.fails ≡ fails.items }
-        ensures calls { result.calls ≡ 0 }
-        ensures faults { result.faults ≡ 0 }
+        ensures { result ≡ new_source bytes.items fails.items (2 ^ 64 - 1) }
     {
         MemorySource::slow(bytes, fails, usize::MAX)
     }
@@ -45,11 +43,7 @@ impl MemorySource {
     /// As `new`, but a call gives at most `most` bytes.
     pub fn slow(bytes: Vec<u8>, fails: Vec<u32>, most: usize) -> MemorySource
         requires most { 0 < most }
-        ensures left { result.left ≡ bytes.items }
-        ensures most { result.most ≡ most }
-        ensures fails { result.fails ≡ fails.items }
-        ensures calls { result.calls ≡ 0 }
-        ensures faults { result.faults ≡ 0 }
+        ensures { result ≡ new_source bytes.items fails.items most }
     {
         MemorySource {
             bytes,
@@ -69,14 +63,10 @@ impl Source for MemorySource {
 
     /// Gives as much as is left and fits, up to the most of one call.
     fn read(&mut self, out: &mut [u8]) -> Result<usize, Failed>
-        ensures bound { ReadsAtMost result out.new }
-        ensures bytes { ReadConsumes (Some self.old.left) (Some self.new.left) result out.new }
-        ensures cause { HasCause self.old.faults self.new.faults result }
+        ensures reads { ReadsSource (Some self.old.left) (Some self.new.left) self.old.faults self.new.faults out.new result }
         ensures exactly { IsErr result ↔ Contains self.old.fails self.new.calls }
         ensures fits { IfOk result (λ n. n ≡ min self.old.most (min (length self.old.left) (length out.old))) }
-        ensures calls { self.new.calls ≡ one_more self.old.calls }
-        ensures faults { OnErr result (self.new.faults ≡ one_more self.old.faults) }
-        ensures kept { (self.new.fails ≡ self.old.fails) × (self.new.most ≡ self.old.most) }
+        ensures counts { CountsRead self.old self.new result }
     {
         self.calls = self.calls.saturating_add(1);
         if is_numbered(&self.fails, self.calls) {

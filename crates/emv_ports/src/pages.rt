@@ -2,7 +2,7 @@
 ghost use Rattle.std.specs.Prelude.{◌≡◌, ◌<◌, true, false, slice_index_or, [], IsTrue};
 ghost use Rattle.std.specs.Prelude.{OnOk, OnErr};
 ghost use Rattle.emv_ports.specs.Cut.{is_plan};
-ghost use Rattle.emv_ports.specs.Memory.{Memory, planned, PowersUp, powered_off, marked, written, gone};
+ghost use Rattle.emv_ports.specs.Memory.{Memory, planned, PowersUp, powered_off, commit_marked, page_written, gone};
 ghost use Rattle.emv_ports.specs.Memory.{next_write_cut, next_release_cut, CutWrite};
 ghost use Rattle.emv_ports.specs.declared.tear.Cut.TheVariants.{Spared, CutBefore};
 
@@ -45,14 +45,14 @@ pub trait Pages: Drop {
     /// Begins the next commit.
     fn mark(&mut self)
         requires on { (memory self.old).on ≡ true }
-        ensures { memory self.new ≡ marked (memory self.old) };
+        ensures { memory self.new ≡ commit_marked (memory self.old) };
 
     /// Writes a page. `Gone` comes exactly where the plan cuts this write of this commit.
     fn write(&mut self, page: u8, bytes: &[u8; 64]) -> Result<(), Gone>
         requires on { (memory self.old).on ≡ true }
         requires page { page < 64 }
         ensures spared { OnOk result (next_write_cut (memory self.old) ≡ Spared) }
-        ensures written { OnOk result (memory self.new ≡ written (memory self.old) page bytes.now) }
+        ensures written { OnOk result (memory self.new ≡ page_written (memory self.old) page bytes.now) }
         ensures cut { OnErr result (CutWrite (memory self.old) page bytes.now (memory self.new)) };
 
     /// Says that the writes are done. `Gone` comes exactly where the plan cuts the release of this

@@ -27,9 +27,7 @@ impl RoughPages {
     /// Pages that are off, every cell sure of 00, no tear planned and no loss.
     pub fn blank(word: u32) -> RoughPages
         ensures blank { IsBlank result.memory }
-        ensures memory { result.memory ≡ blank_memory }
-        ensures word { result.word ≡ word }
-        ensures power_ups { result.power_ups ≡ 0 }
+        ensures value { result ≡ record { memory = blank_memory; word = word; power_ups = 0 } }
     {
         RoughPages {
             pages: MemoryPages::blank(),
@@ -40,19 +38,16 @@ impl RoughPages {
 }
 
 impl Pages for RoughPages {
-    ghost use Rattle.std.specs.Prelude.{◌≡◌, ◌<◌, ◌+◌, ◌%◌, IsTrue, OnOk, OnErr};
+    ghost use Rattle.std.specs.Prelude.{◌≡◌, ◌<◌, ◌+◌, ◌%◌, IsTrue};
     ghost use Rattle.emv_ports.specs.Cut.{is_plan};
-    ghost use Rattle.emv_ports.specs.Memory.{planned, PowersUp, powered_off, marked, gone};
-    ghost use Rattle.emv_ports.specs.Memory.{next_write_cut, next_release_cut, written, CutWrite};
+    ghost use Rattle.emv_ports.specs.Memory.{planned, PowersUp, powered_off, commit_marked, WritesPage, ReleasesPages};
     ghost use Rattle.emv_ports.specs.Rough.{rough_pages};
-    ghost use Rattle.emv_ports.specs.declared.tear.Cut.TheVariants.{Spared, CutBefore};
 
     ghost memory = { λ rough. rough.memory };
 
     fn plan(&mut self, tear: Option<Tear>)
-        requires { IsTrue (is_plan tear) }
-        ensures memory { self.new.memory ≡ planned self.old.memory tear }
-        ensures kept { (self.new.word ≡ self.old.word) × (self.new.power_ups ≡ self.old.power_ups) }
+        requires plan { IsTrue (is_plan tear) }
+        ensures { self.new ≡ record self.old { memory = planned self.old.memory tear } }
     {
         self.pages.plan(tear)
     }
@@ -70,8 +65,7 @@ impl Pages for RoughPages {
     }
 
     fn power_off(&mut self)
-        ensures memory { self.new.memory ≡ powered_off self.old.memory }
-        ensures kept { (self.new.word ≡ self.old.word) × (self.new.power_ups ≡ self.old.power_ups) }
+        ensures { self.new ≡ record self.old { memory = powered_off self.old.memory } }
     {
         self.pages.power_off()
     }
@@ -81,31 +75,21 @@ impl Pages for RoughPages {
     }
 
     fn mark(&mut self)
-        ensures memory { self.new.memory ≡ marked self.old.memory }
-        ensures kept { (self.new.word ≡ self.old.word) × (self.new.power_ups ≡ self.old.power_ups) }
+        ensures { self.new ≡ record self.old { memory = commit_marked self.old.memory } }
     {
         self.pages.mark()
     }
 
     fn write(&mut self, page: u8, bytes: &[u8; 64]) -> Result<(), Gone>
-        requires { page < 64 }
-        ensures spared { OnOk result (next_write_cut self.old.memory ≡ Spared) }
-        ensures written { OnOk result
-            (self.new.memory ≡ written self.old.memory page bytes.now) }
-        ensures cut { OnErr result
-            (CutWrite self.old.memory page bytes.now self.new.memory) }
-
+        requires within { page < 64 }
+        ensures writes { WritesPage self.old.memory page bytes.now self.new.memory result }
         ensures kept { (self.new.word ≡ self.old.word) × (self.new.power_ups ≡ self.old.power_ups) }
     {
         self.pages.write(page, bytes)
     }
 
     fn release(&mut self) -> Result<(), Gone>
-        ensures spared { OnOk result (next_release_cut self.old.memory ≡ Spared) }
-        ensures same { OnOk result (self.new.memory ≡ self.old.memory) }
-        ensures cut { OnErr result (next_release_cut self.old.memory ≡ CutBefore) }
-        ensures gone { OnErr result (self.new.memory ≡ gone self.old.memory) }
-
+        ensures releases { ReleasesPages self.old.memory self.new.memory result }
         ensures kept { (self.new.word ≡ self.old.word) × (self.new.power_ups ≡ self.old.power_ups) }
     {
         self.pages.release()

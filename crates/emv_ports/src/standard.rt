@@ -1,8 +1,8 @@
+//! Standard input and output as ports.
 ghost use Rattle.std.specs.Prelude.{◌≡◌, ℕ, ◌<◌, length, IfOk, OnErr, IsErr, Ok, MatchResult};
 ghost use Rattle.std.specs.declared.option.Option.{Option};
-ghost use Rattle.std.specs.Io.{ReadsAtMost};
-ghost use Rattle.std.specs.Io.KnownBytes.{ReadConsumes};
 ghost use Rattle.emv_ports.specs.Causes.{HasCause, one_more};
+ghost use Rattle.emv_ports.specs.Moving.{ReadsSource};
 
 use crate::{Failed, Sink, Source};
 use std::io;
@@ -48,9 +48,7 @@ impl<R: Read + Drop> Source for StdinSource<R> {
     ghost faults = { λ s. s.faults };
 
     fn read(&mut self, out: &mut [u8]) -> Result<usize, Failed>
-        ensures bound { ReadsAtMost result out.new }
-        ensures bytes { ReadConsumes (R.remaining self.old.reader) (R.remaining self.new.reader) result out.new }
-        ensures cause { HasCause self.old.faults self.new.faults result }
+        ensures reads { ReadsSource (R.remaining self.old.reader) (R.remaining self.new.reader) self.old.faults self.new.faults out.new result }
         // A fault counts once.
         ensures raised { OnErr result (self.new.faults ≡ one_more self.old.faults) }
     {

@@ -7,25 +7,24 @@ use Rattle.toml.specs.Parse.{parse_document}
 use Rattle.emv_ports.specs.Causes.{Rose}
 use Rattle.emv_ports.specs.Memory.{Memory}
 use Rattle.emv_ports.specs.Reading.{ReadsUpTo}
-use Rattle.emv_top.specs.Answers.{Refuses, SinkCount, SourceCount}
+use Rattle.emv_top.specs.Answers.{Refuses}
 use Rattle.emv_top.specs.Checking.{Checks, ChecksRead, HasFault, HasVerdict, TellsFront, TellsVerdict}
-use Rattle.emv_top.specs.StatusCode.{code_of}
+use Rattle.emv_top.specs.StatusCode.{SinkCount, SourceCount, status_code}
 use Rattle.emv_top.specs.declared.status.Status.{Status}
 use Rattle.emv_top.specs.declared.status.Status.TheVariants.{Done, Refused, Usage, ReadFault, WriteFault, OutOfMemory}
 use Rattle.emv_top.proofs.Accepting.{same_bytes}
-use Rattle.emv_top.proofs.Answering.{done_by, refused_by, usage_by, write_fault_by, starved_by}
 use Rattle.kernel.specs.Tally.{Counts}
 use Rattle.scenario_fields.specs.Fault.{Gives}
 use Rattle.scenario_fields.specs.Line.{refused_line}
 use Rattle.scenario_fields.specs.declared.fault.ScenarioFault.{ScenarioFault}
 use Rattle.scenario_fields.specs.declared.fault.ScenarioFault.TheVariants as fault
-use Rattle.trace_check.specs.Document.{IsReading, TraceData, of_document}
+use Rattle.trace_check.specs.Document.{ReadsTrace, TraceData, trace_of_document}
 use Rattle.trace_check.specs.Verdicts.{verdict_of}
 use Rattle.trace_check.specs.declared.read.TheConstants.{MOST_BYTES}
 
 -- the bytes are a trace's, or have a fault
 module _ (bytes : List ℕ) (old new : Option (List ℕ)) where
-  pub checked : (trace : TraceData) (status : Status) → IsReading bytes (Ok trace) → TellsVerdict (verdict_of trace) old new status → Checks bytes old new status
+  pub checked : (trace : TraceData) (status : Status) → ReadsTrace bytes (Ok trace) → TellsVerdict (verdict_of trace) old new status → Checks bytes old new status
   checked trace Done reading tells = record { trace = trace; reading = reading; told = tells }
   checked trace Refused reading tells = absurd tells
   checked trace Usage reading tells = absurd tells
@@ -33,7 +32,7 @@ module _ (bytes : List ℕ) (old new : Option (List ℕ)) where
   checked trace WriteFault reading tells = inl (record { trace = trace; reading = reading; told = tells })
   checked trace OutOfMemory reading tells = absurd tells
 
-  pub unchecked : (because : ScenarioFault) (bank : List Memory) (tally : Counts) (status : Status) → IsReading bytes (Err because)
+  pub unchecked : (because : ScenarioFault) (bank : List Memory) (tally : Counts) (status : Status) → ReadsTrace bytes (Err because)
       → Refuses because old new bank tally status → Checks bytes old new status
   unchecked because bank tally Done reading refuses = absurd refuses
   unchecked because bank tally Refused reading refuses =
@@ -70,39 +69,13 @@ module _ (bytes : List ℕ) (old new : Option (List ℕ)) where
   source_stays before now WriteFault checks same = same
   source_stays before now OutOfMemory checks same = same
 
--- where the words ask for it, the clauses of the top call for each code
-module _ (left after old new : Option (List ℕ)) (status : Status) (checks : ChecksRead left after old new status) where
-  as_is : (other : Status) → status ≡ other → ChecksRead left after old new other
-  as_is other same = subst (λ (st : Status). ChecksRead left after old new st) same checks
-
-  pub clause_checked : code_of status ≡ 0 → (bytes : List ℕ) × ReadsUpTo 4194305 left after bytes × HasVerdict bytes (Appends old new)
-  clause_checked code = as_is Done (done_by status code)
-
-  pub clause_check_refused : code_of status ≡ 1 → (bytes : List ℕ) × ReadsUpTo 4194305 left after bytes × HasFault bytes (Appends old new)
-  clause_check_refused code = as_is Refused (refused_by status code)
-
-  pub no_usage : status ≡ Usage → ⊥
-  no_usage is = as_is Usage is
-
-  pub clause_check_front : code_of status ≡ 4 → (bytes : List ℕ) × ReadsUpTo 4194305 left after bytes × TellsFront bytes old new
-  clause_check_front code = as_is WriteFault (write_fault_by status code)
-
-  pub clause_check_memory : code_of status ≡ 5 → new ≡ old
-  clause_check_memory code = as_is OutOfMemory (starved_by status code)
-
--- words that are answered by the usage line ask for no check
-pub unasked_check : (asks : Bool) (left after old new : Option (List ℕ)) (status : Status) → (asks ≡ true → ChecksRead left after old new status)
-    → code_of status ≡ 2 → asks ≡ false
-unasked_check true left after old new status checks code = absurd (no_usage left after old new status (checks refl) (usage_by status code))
-unasked_check false left after old new status checks code = refl
-
 -- what was answered besides a trace for the same bytes can't be, where both can't be of one document
-two_readings : (bytes : List ℕ) (trace : TraceData) (other : Result TraceData ScenarioFault) → IsReading bytes (Ok trace) → IsReading bytes other
+two_readings : (bytes : List ℕ) (trace : TraceData) (other : Result TraceData ScenarioFault) → ReadsTrace bytes (Ok trace) → ReadsTrace bytes other
     → ((has : Result TraceData ScenarioFault) → has ≡ Ok trace → Gives (λ x. x) other has → ⊥) → ⊥
 two_readings bytes trace other one two clash = by (nat_lt MOST_BYTES (length bytes)) refl
   where
     no_text : length bytes ≤ MOST_BYTES → IsUtf8 bytes → ⊥
-    no_text small text = clash (of_document (parse_document bytes)) (one.text small text) (two.text small text)
+    no_text small text = clash (trace_of_document (parse_document bytes)) (one.text small text) (two.text small text)
 
     by : (long : Bool) → nat_lt MOST_BYTES (length bytes) ≡ long → ⊥
     by true size = let more : MOST_BYTES < length bytes = grind (arith, nat_tests) in let e = one.long more in absurd (cc)
@@ -121,13 +94,13 @@ no_trace (fault.OutOfLimit path) because line told trace has same one two = absu
 no_trace (fault.UnknownKey path) because line told trace has same one two = absurd (cc)
 no_trace (fault.UnknownName path) because line told trace has same one two = absurd (cc)
 
-not_refused : (bytes : List ℕ) (trace : TraceData) → IsReading bytes (Ok trace) → (written : List ℕ → Type 0) → HasFault bytes written → ⊥
+not_refused : (bytes : List ℕ) (trace : TraceData) → ReadsTrace bytes (Ok trace) → (written : List ℕ → Type 0) → HasFault bytes written → ⊥
 not_refused bytes trace reading written refused =
     two_readings bytes trace (Err refused.fault) reading refused.reading
     (λ has one two. no_trace refused.fault refused.fault refused.line refused.named trace has refl one two)
 
 -- where a trace was read and no count of faults rose, the check was made, or memory was wanting
-module _ (bytes : List ℕ) (trace : TraceData) (reading : IsReading bytes (Ok trace)) (left after old new : Option (List ℕ)) (known : left ≢ None)
+module _ (bytes : List ℕ) (trace : TraceData) (reading : ReadsTrace bytes (Ok trace)) (left after old new : Option (List ℕ)) (known : left ≢ None)
     (reads : ReadsUpTo 4194305 left after bytes) where
   refusal : (other : List ℕ) → ReadsUpTo 4194305 left after other → HasFault other (Appends old new) → ⊥
   refusal other others refused =
@@ -135,7 +108,7 @@ module _ (bytes : List ℕ) (trace : TraceData) (reading : IsReading bytes (Ok t
       (subst (λ (b : List ℕ). HasFault b (Appends old new)) (sym (same_bytes left after bytes other known reads others)) refused)
 
   pub settles_check : (status : Status) (before now first last : ℕ) → ChecksRead left after old new status → SourceCount before now status
-      → SinkCount first last status → (Rose before now → ⊥) → (Rose first last → ⊥) → (code_of status ≡ 0) ⊎ (code_of status ≡ 5)
+      → SinkCount first last status → (Rose before now → ⊥) → (Rose first last → ⊥) → (status_code status ≡ 0) ⊎ (status_code status ≡ 5)
   settles_check Done before now first last checks source sink calm still = inl refl
   settles_check Refused before now first last checks source sink calm still = absurd (refusal checks.0 checks.1 checks.2)
   settles_check Usage before now first last checks source sink calm still = absurd checks

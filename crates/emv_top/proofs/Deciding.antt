@@ -4,9 +4,9 @@ use Rattle.std.proofs.lemmas.Bool.{cases_eq}
 use Rattle.std.proofs.lemmas.List.{get_or-set_other}
 use Rattle.std.proofs.lemmas.Option.{same_Some, slice_get_within, get_or_from_slice_get}
 use Rattle.std.specs.Prelude.{is_none, option_map, option_and_then}
-use Rattle.card_files.specs.Kept.{IsImage}
-use Rattle.completeness.specs.Laws.{PurchasesAreDecided, HostsAreLinked}
-use Rattle.completeness.specs.WellFormed.{WellFormed}
+use Rattle.card_files.specs.ImageRules.{IsImage}
+use Rattle.dialogue_laws.specs.Decisions.{PurchasesAreDecided, HostsAreLinked}
+use Rattle.dialogue_laws.specs.WellFormed.{WellFormed}
 use Rattle.emv_dict.specs.Settings.{IsSettings}
 use Rattle.emv_top.specs.Decided.{IsDecidedAt, AreDecided, RunsAreDecided}
 use Rattle.emv_top.proofs.Fates.{IsWhole, WasTold, EndedSo, Came, Behind, store_fate}
@@ -18,22 +18,22 @@ use Rattle.scenario.specs.Plan.{ScenarioData, IsScenario}
 use Rattle.scenario_lanes.specs.Plan.{LaneData}
 use Rattle.scenario_lanes.specs.declared.plan.Planned.{Planned}
 use Rattle.txn_replay.specs.Part.{Part, Moved}
-use Rattle.txn_replay.specs.Payment.{Payment, payment_with, payment_of, payment_on, payment_in, next_of, deal_for}
-use Rattle.txn_replay.specs.Run.{Place, Reached, start, scheduled, rounds, round, again, settlement, settling, audit, auditing, finished, lane_over, all_over}
-use Rattle.txn_replay.specs.Sound.{IsSound}
-use Rattle.txn_replay.specs.Steps.{Settlement, Opens, Sends, settles, settlements, checks, audits, part_of, moved, choice_in, turned, turned_by, Step}
+use Rattle.txn_replay.specs.Payment.{Payment, payment_with, payment_of, payment_on, payment_in, next_of, outset_for}
+use Rattle.txn_replay.specs.Run.{RunPlace, Reached, start, scheduled, rounds, round, again, settlement, settling, audit, auditing, finished, lane_over, all_over}
+use Rattle.txn_replay.specs.Sound.{IsWorldSound}
+use Rattle.txn_replay.specs.Steps.{Settlement, Opens, Sends, settles, settlements, checks, audits, part_of, lane_moved, choice_in, turned, turned_by, Step}
 use Rattle.txn_replay.specs.Storing.{lane_piece}
 use Rattle.txn_replay.specs.declared.event.Event.TheVariants.{Turn}
 use Rattle.txn_replay.specs.World.{Holder, Past, CardRow, LaneRow, World, new_card, new_lane, first_world, card_at, lane_at}
-use Rattle.txn_replay.proofs.Exchanging.{lane_tells}
-use Rattle.txn_replay.proofs.Fairness.{reached_sound}
-use Rattle.txn_replay.proofs.Lining.{lane_behind, card_behind}
+use Rattle.txn_replay.proofs.ExchangeLaws.ExchangeCases.{lane_tells}
+use Rattle.txn_replay.proofs.RunLaws.FairRuns.{reached_sound}
+use Rattle.txn_replay.proofs.RunLaws.LinesReached.{lane_behind, card_behind}
 use Rattle.txn_replay.proofs.Lists.{get_or-map_const}
-use Rattle.txn_replay.proofs.Moves.{Moves, Outcome, kept, moves, lane_outcome, this_one}
-use Rattle.txn_replay.proofs.Payments.{IsPayment, payment_facts}
-use Rattle.txn_replay.proofs.Sending.{LanesLike, settle_like, audit_like}
-use Rattle.txn_replay.proofs.Sounding.{moved_still, has_card}
-use Rattle.txn_replay.proofs.Waiting.{below_over, calm_over}
+use Rattle.txn_replay.proofs.ExchangeLaws.LaneMoves.{Moves, Outcome, kept, moves, lane_outcome, this_one}
+use Rattle.txn_replay.proofs.ExchangeLaws.PurchaseFacts.{IsPayment, payment_facts}
+use Rattle.txn_replay.proofs.ExchangeLaws.LaneMessages.{LanesLike, settle_like, audit_like}
+use Rattle.txn_replay.proofs.RunLaws.SoundWorlds.{moved_still, has_card}
+use Rattle.txn_replay.proofs.RunLaws.TurnsEnd.{below_over, calm_over}
 
 -- the rules that a purchase's card, terminal and issuer keep
 record KeepsRules (p : Payment) : Type 0 where
@@ -98,10 +98,10 @@ idle_accounts s w later like idle accounts = record {
   ended = like_ended s w later like accounts.ended;
 }
 
-module _ (s : ScenarioData) (w : World) (l : ℕ) (p : Payment) (sound : IsSound s w) (is : next_of s w l ≡ Some p) (accounts : Accounts s w) (m : Moved)
+module _ (s : ScenarioData) (w : World) (l : ℕ) (p : Payment) (sound : IsWorldSound s w) (is : next_of s w l ≡ Some p) (accounts : Accounts s w) (m : Moved)
     (so : Moves p (part_of w l p.planned.card) m.part) where
   abbrev later : World
-  later = (moved w l p.planned.card m).world
+  later = (lane_moved w l p.planned.card m).world
 
   facts : IsPayment s l p
   facts = payment_facts s l (length (lane_at w l).ended) p is
@@ -162,7 +162,7 @@ module _ (s : ScenarioData) (w : World) (l : ℕ) (p : Payment) (sound : IsSound
       decided place so_ended q at tear terminal apps =
           let ps : p ≡ q = same_Some p q (sym is ∙ ap (λ k. payment_in s l k) (sym place) ∙ at) in
           let one = so_ended (subst IsWhole (sym ps) (record { tear = tear; terminal = terminal; apps = apps })) in
-          (one.0, one.1, λ formed. one.2 (subst (λ (x : Payment). WellFormed x.card.image (deal_for x) one.0) (sym ps) formed))
+          (one.0, one.1, λ formed. one.2 (subst (λ (x : Payment). WellFormed x.card.image (outset_for x) one.0) (sym ps) formed))
 
   at_lanes : (P : ℕ → Type 0) → P l → ((k : ℕ) → k ≢ l → P k) → (k : ℕ) → P k
   at_lanes P here there k = elim (cases_eq k l) [ inl same ↦ subst P (sym same) here | inr other ↦ there k other ]
@@ -182,14 +182,14 @@ module _ (s : ScenarioData) (w : World) (l : ℕ) (p : Payment) (sound : IsSound
   }
 
 module _ (law : PurchasesAreDecided) (hosts : HostsAreLinked) (s : ScenarioData) (fits : IsScenario s) where
-  turn_accounts : (w : World) (l : ℕ) (choices : List Bool) → IsSound s w → Accounts s w → Accounts s (turned s w l choices).world
+  turn_accounts : (w : World) (l : ℕ) (choices : List Bool) → IsWorldSound s w → Accounts s w → Accounts s (turned s w l choices).world
   turn_accounts w l choices sound accounts = by_next (next_of s w l) refl
     where
       by_outcome : (p : Payment) → next_of s w l ≡ Some p → (m : Moved) → Outcome p (part_of w l p.planned.card) m.part
           → ((replies : List Reply) → m.part.lane.running ≡ Some replies → WasTold p m.part.lane m.part.card replies)
           → ((number : ℕ) (past : Past) → slice_get m.part.lane.ended number ≡ Some past
           → (slice_get (lane_at w l).ended number ≡ Some past) ⊎ ((number ≡ length (lane_at w l).ended) × EndedSo p past))
-          → Accounts s (moved w l p.planned.card m).world
+          → Accounts s (lane_moved w l p.planned.card m).world
       by_outcome p is m (kept same) told ended = subst (λ (x : World). Accounts s x) (sym (moved_still w l p.planned.card m.part same)) accounts
       by_outcome p is m (moves so) told ended = accounts_by s w l p sound is accounts m so told ended
 
@@ -213,7 +213,7 @@ module _ (law : PurchasesAreDecided) (hosts : HostsAreLinked) (s : ScenarioData)
   settle_accounts w choices (Some (Sends l message drops)) accounts = like_accounts s w _ _ (settle_like s w choices (Some (Sends l message drops))) accounts
 
   -- where all is over, no lane runs a purchase
-  idle : (w : World) → IsSound s w → all_over s w ≡ true → (l : ℕ) → (lane_at w l).running ≡ None
+  idle : (w : World) → IsWorldSound s w → all_over s w ≡ true → (l : ℕ) → (lane_at w l).running ≡ None
   idle w sound over l = by (lane_at w l).running refl
     where
       by : (o : Option (List Reply)) → (lane_at w l).running ≡ o → o ≡ None
@@ -225,13 +225,13 @@ module _ (law : PurchasesAreDecided) (hosts : HostsAreLinked) (s : ScenarioData)
           let busy : lane_over s w l ≡ false = ap (λ (o : Option (List Reply)). is_none o && is_none (next_of s w l)) is in
           absurd (cc)
 
-  turn_step : {place : Place} {n : ℕ} {cs c : List Bool} {ls new : List Line} {w later : World} (l : ℕ) (before : Reached s place n cs ls w) → Step s w (Turn l) c new later
+  turn_step : {place : RunPlace} {n : ℕ} {cs c : List Bool} {ls new : List Line} {w later : World} (l : ℕ) (before : Reached s place n cs ls w) → Step s w (Turn l) c new later
       → Accounts s w → Accounts s later
   turn_step {place} {n} {cs} {c} {ls} {new} {w} {later} l before step accounts =
       subst (λ (x : World). Accounts s x) (sym step.leads) (turn_accounts w l c (reached_sound s place n cs ls w before) accounts)
 
   -- and so for all worlds that a run comes to
-  accounted : (place : Place) (n : ℕ) (cs : List Bool) (ls : List Line) (w : World) → Reached s place n cs ls w → Accounts s w
+  accounted : (place : RunPlace) (n : ℕ) (cs : List Bool) (ls : List Line) (w : World) → Reached s place n cs ls w → Accounts s w
   accounted _ _ _ _ _ start = record {
     running = λ l replies p ran is whole.
         (let none : (lane_at (first_world s) l).running ≡ None = ap (λ (lane : LaneRow). lane.running) (get_or-map_const s.lanes l new_lane) in absurd (cc));

@@ -3,16 +3,16 @@ use Rattle.std.proofs.Common.{◌≡◌, ◌⊎◌, ℕ, ◌+◌, true, false, L
 use Rattle.std.proofs.lemmas.Option.{same_Some}
 use Rattle.capture_store.specs.StoreRow.{commit_next, opened_to_add}
 use Rattle.card_app.specs.Answering.{card_answer}
-use Rattle.card_files.specs.Kept.{IsImage}
+use Rattle.card_files.specs.ImageRules.{IsImage}
 use Rattle.card_pages.specs.Cuts.{cut_of}
 use Rattle.card_pages.specs.Pages.{found_of}
 use Rattle.card_state.specs.Decisions.{Decided}
-use Rattle.completeness.specs.Cards.{Now}
-use Rattle.completeness.specs.Laws.{PurchasesAreDecided, HostsAreLinked}
-use Rattle.completeness.specs.Told.{Told, begins, card as told_card, host as told_host, IsLinked}
-use Rattle.completeness.specs.WellFormed.{WellFormed}
+use Rattle.dialogue_laws.specs.Cards.{Now}
+use Rattle.dialogue_laws.specs.Decisions.{PurchasesAreDecided, HostsAreLinked}
+use Rattle.dialogue_laws.specs.UncutPurchase.{IsToldSo, begins, card as told_card, host as told_host, IsLinked}
+use Rattle.dialogue_laws.specs.WellFormed.{WellFormed}
 use Rattle.emv_dict.specs.Settings.{IsSettings}
-use Rattle.emv_ports.specs.Cut.{is_named}
+use Rattle.emv_ports.specs.Cut.{names_commit}
 use Rattle.emv_ports.specs.declared.tear.Tear.{Tear}
 use Rattle.emv_top.specs.Decided.{EndsDecided}
 use Rattle.host_link.specs.Delivery.{heard}
@@ -23,15 +23,15 @@ use Rattle.kernel.specs.Reply.{Reply, Deed, ToCard, ToHost, Over}
 use Rattle.report_text.specs.declared.line.Line.{Line}
 use Rattle.scenario_lanes.specs.declared.plan.Link.{Link}
 use Rattle.scenario_lanes.specs.declared.plan.Link.TheVariants.{Sound, RequestLost, ReplyLost, Twice}
-use Rattle.terminal_state.specs.Marks.{Mark}
-use Rattle.terminal_state.specs.Terminal.{Deal}
+use Rattle.terminal_state.specs.StepResults.{StepResult}
+use Rattle.terminal_state.specs.Terminal.{Outset}
 use Rattle.txn_replay.specs.Part.{Part, loses}
-use Rattle.txn_replay.specs.Payment.{Payment, deal_for, end_at}
+use Rattle.txn_replay.specs.Payment.{Payment, outset_for, end_at}
 use Rattle.txn_replay.specs.Storing.{part_with, lane_lost, lane_copied, copied}
 use Rattle.txn_replay.specs.World.{Past, CardRow, LaneRow}
-use Rattle.txn_replay.proofs.Exchanging.{Tells, StoreTells}
-use Rattle.txn_replay.proofs.Hearing.{last_at}
-use Rattle.txn_replay.proofs.Sending.{Later, later_ended}
+use Rattle.txn_replay.proofs.ExchangeLaws.ExchangeCases.{Tells, StoreTells}
+use Rattle.txn_replay.proofs.LineLaws.RepliesTold.{last_at}
+use Rattle.txn_replay.proofs.ExchangeLaws.LaneMessages.{Later, later_ended}
 
 -- the card of a row, as it stands
 abbrev pub now_of : CardRow → Now
@@ -46,18 +46,18 @@ pub record IsWhole (p : Payment) : Type 0 where
 -- where it is whole, its terminal was told what its card and the host said since the power-up, which found what its lane has
 abbrev pub WasTold : Payment → LaneRow → CardRow → List Reply → Type 0
 WasTold p lane card replies =
-    IsWhole p → (found : List Decided) × (lane.began ≡ Some found) × Told p.card.image (deal_for p) found (now_of card) replies
+    IsWhole p → (found : List Decided) × (lane.began ≡ Some found) × IsToldSo p.card.image (outset_for p) found (now_of card) replies
 
 -- and behind a well-formed card it ended decided
 abbrev pub EndedSo : Payment → Past → Type 0
 EndedSo p past =
-    IsWhole p → (found : List Decided) × (past.began ≡ Some found) × (WellFormed p.card.image (deal_for p) found → EndsDecided past.end)
+    IsWhole p → (found : List Decided) × (past.began ≡ Some found) × (WellFormed p.card.image (outset_for p) found → EndsDecided past.end)
 
 -- an end record is that of a dialogue that is over
-over_of : (deal : Deal) (marks : List Mark) (deed : Deed) (end : EndData) → end_by deal marks deed ≡ Some end → deed ≡ Over end.ending
-over_of deal marks (ToCard command) end is = cc
-over_of deal marks (ToHost message) end is = cc
-over_of deal marks (Over ending) end is = ap (λ (o : Option EndData). over_in o) is
+over_of : (outset : Outset) (steps_done : List StepResult) (deed : Deed) (end : EndData) → end_by outset steps_done deed ≡ Some end → deed ≡ Over end.ending
+over_of outset steps_done (ToCard command) end is = cc
+over_of outset steps_done (ToHost message) end is = cc
+over_of outset steps_done (Over ending) end is = ap (λ (o : Option EndData). over_in o) is
   where
     over_in : Option EndData → Deed
     over_in (Some e) = Over e.ending
@@ -91,8 +91,8 @@ module _ (law : PurchasesAreDecided) (hosts : HostsAreLinked) (p : Payment) (ima
       let one = came whole in (
         one.0,
         one.1,
-        λ formed. law p.card.image (deal_for p) one.0 (now_of card) replies end.ending (image whole.apps) settings formed one.2
-            (over_of (deal_for p) (dialogue (deal_for p) replies).marks (dialogue (deal_for p) replies).deed end is),
+        λ formed. law p.card.image (outset_for p) one.0 (now_of card) replies end.ending (image whole.apps) settings formed one.2
+            (over_of (outset_for p) (dialogue (outset_for p) replies).steps_done (dialogue (outset_for p) replies).deed end is),
       )
 
   linked : (link : Link) (messages : List (List ℕ)) (message : List ℕ) → IsLinked (heard link (host_reply p.issuer p.accounts messages message))
@@ -125,7 +125,7 @@ module _ (law : PurchasesAreDecided) (hosts : HostsAreLinked) (p : Payment) (ima
     );
     powers = λ rests free apps choice whole. (found_of part.card.kept part.card.pending choice, refl, begins);
     power_cut = λ rests free apps is whole.
-        (let none : is_named p.planned.tear 0 ≡ false = ap (λ (t : Option Tear). is_named t 0) whole.tear in absurd (cc));
+        (let none : names_commit p.planned.tear 0 ≡ false = ap (λ (t : Option Tear). names_commit t 0) whole.tear in absurd (cc));
     powers_canned = λ rests free answers canned whole. absurd (not_whole answers canned whole);
     answers = λ replies runs apps command asks whole.
         (let one = told replies runs whole in (one.0, one.1, told_card part.lane.log one.2 asks));
@@ -155,12 +155,12 @@ module _ (law : PurchasesAreDecided) (hosts : HostsAreLinked) (p : Payment) (ima
   none_runs rests replies runs = let none : None ≡ Some replies = sym rests ∙ runs in cc
 
   -- the plan isn't there
-  unplanned : (tear : Option Tear) (n : ℕ) → tear ≡ None → is_named tear n ≡ true → ⊥
+  unplanned : (tear : Option Tear) (n : ℕ) → tear ≡ None → names_commit tear n ≡ true → ⊥
   unplanned None n is named = cc
   unplanned (Some tear) n is named = cc
 
   lost_fate : (after : Part) → after.lane.running ≡ None → after.lane.ended ≡ (lane_lost part.lane).ended → (n : ℕ)
-      → is_named p.planned.terminal_tear n ≡ true → Kept after []
+      → names_commit p.planned.terminal_tear n ≡ true → Kept after []
   lost_fate after rests same n named = (
     λ replies runs. (let none : None ≡ Some replies = sym rests ∙ runs in cc),
     λ number past here.

@@ -6,18 +6,18 @@ use Rattle.std.specs.Io.KnownBytes.{Appends}
 use Rattle.emv_ports.specs.Growth.{AppendsFront}
 use Rattle.emv_ports.proofs.Growth.{Appends-none, Appends-more}
 use Rattle.emv_top.specs.Answers.{Completes}
-use Rattle.emv_top.specs.Courses.{Course, Ends, SoFar, IsOneLess, Stopped, Makes, IsThere, Breaks, Fails}
-use Rattle.emv_top.specs.Texts.{text_of}
-use Rattle.emv_top.proofs.Writing.{text_of-append}
+use Rattle.emv_top.specs.RunsSoFar.{RunDefinition, Ends, IsRunSoFar, IsOneLess, RunWasStopped, Makes, IsThere, Breaks, MakesNone}
+use Rattle.emv_top.specs.Texts.{text_of_lines}
+use Rattle.emv_top.proofs.Writing.{text_of_lines-append}
 use Rattle.report_text.specs.declared.line.Line.{Line}
 use Rattle.scenario.specs.Plan.{ScenarioData}
 use Rattle.txn_replay.specs.Steps.{Step}
 use Rattle.txn_replay.specs.World.{World}
 use Rattle.txn_replay.specs.declared.event.Event.{Event}
-use Rattle.txn_replay.specs.Seen.{WorldSeen, WorldStands, Goes}
+use Rattle.txn_replay.specs.Seen.{WorldSeen, WorldStands, EventHasLed}
 
 -- the start of a run
-pub begins : (course : Course) (holds : World → Type 0) (w : World) (held : Option (List ℕ)) → course 0 [] [] w → holds w → SoFar course holds held held
+pub begins : (course : RunDefinition) (holds : World → Type 0) (w : World) (held : Option (List ℕ)) → course 0 [] [] w → holds w → IsRunSoFar course holds held held
 begins course holds w held reached stands = record {
   count = 0;
   choices = [];
@@ -29,9 +29,9 @@ begins course holds w held reached stands = record {
 }
 
 -- on to another place, without an event
-pub passes : (here there : Course) (holds : World → Type 0) (first held : Option (List ℕ))
+pub passes : (here there : RunDefinition) (holds : World → Type 0) (first held : Option (List ℕ))
     → ((n : ℕ) (cs : List Bool) (ls : List Line) (w : World) → here n cs ls w → holds w → there n cs ls w)
-    → SoFar here holds first held → SoFar there holds first held
+    → IsRunSoFar here holds first held → IsRunSoFar there holds first held
 passes here there holds first held on far = record {
   count = far.count;
   choices = far.choices;
@@ -43,16 +43,16 @@ passes here there holds first held on far = record {
 }
 
 module _ (s : ScenarioData) (e : Event) (shown : List Line → List Line) (v after : WorldSeen) (told : after.scenario ≡ s) where
-  step_of : (w : World) (lines : List Line) (goes : Goes after w e lines) → Step s w e goes.choices lines goes.after
+  step_of : (w : World) (lines : List Line) (goes : EventHasLed after w e lines) → Step s w e goes.choices lines goes.after
   step_of w lines goes = subst (λ (t : ScenarioData). Step t w e goes.choices lines goes.after) told goes.step
 
   -- one event more
-  pub more : (here there : Course) (first old new : Option (List ℕ))
+  pub more : (here there : RunDefinition) (first old new : Option (List ℕ))
       → ((n : ℕ) (cs c : List Bool) (ls made : List Line) (w w' : World) → here n cs ls w → WorldStands v w → IsThere s w e → Step s w e c made w'
       → there (n + 1) (cs ++ c) (ls ++ shown made) w')
       → ((w : World) → WorldStands v w → IsThere s w e)
       → ((n : ℕ) (cs : List Bool) (ls : List Line) (w : World) → here n cs ls w → WorldStands v w → Makes after w e shown old new)
-      → SoFar here (WorldStands v) first old → SoFar there (WorldStands after) first new
+      → IsRunSoFar here (WorldStands v) first old → IsRunSoFar there (WorldStands after) first new
   more here there first old new grows is_there makes far =
       let made : Makes after far.world e shown old new = makes far.count far.choices far.lines far.world far.reached far.stands in
       record {
@@ -63,20 +63,20 @@ module _ (s : ScenarioData) (e : Event) (shown : List Line → List Line) (v aft
         reached = grows far.count far.choices made.goes.choices far.lines made.lines far.world made.goes.after far.reached far.stands
             (is_there far.world far.stands) (step_of far.world made.lines made.goes);
         stands = made.goes.stands;
-        written = subst (λ (t : List ℕ). Appends first new t) (sym (text_of-append far.lines (shown made.lines)))
-            (Appends-more first old new (text_of far.lines) (text_of (shown made.lines)) far.written made.written);
+        written = subst (λ (t : List ℕ). Appends first new t) (sym (text_of_lines-append far.lines (shown made.lines)))
+            (Appends-more first old new (text_of_lines far.lines) (text_of_lines (shown made.lines)) far.written made.written);
       }
 
   -- an event of which a front of the lines was written, or none that was made
-  module _ (here : Course) (ends : Ends) (first old new : Option (List ℕ))
+  module _ (here : RunDefinition) (ends : Ends) (first old new : Option (List ℕ))
       (stays : (n : ℕ) (cs : List Bool) (ls : List Line) (w : World) → here n cs ls w → (tail : List Line) × ends n cs ls w tail)
       (grows : (n : ℕ) (cs c : List Bool) (ls made : List Line) (w w' : World) → here n cs ls w → WorldStands v w → IsThere s w e → Step s w e c made w'
       → (tail : List Line) × ends (n + 1) (cs ++ c) (ls ++ shown made) w' tail)
-      (far : SoFar here (WorldStands v) first old) where
+      (far : IsRunSoFar here (WorldStands v) first old) where
     now : (tail : List Line) × ends far.count far.choices far.lines far.world tail
     now = stays far.count far.choices far.lines far.world far.reached
 
-    breaks : Breaks s after far.world e shown old new → Stopped s shown ends (WorldStands after) first new
+    breaks : Breaks s after far.world e shown old new → RunWasStopped s shown ends (WorldStands after) first new
     breaks made =
         let next : (tail : List Line) × ends (far.count + 1) (far.choices ++ made.goes.choices) (far.lines ++ shown made.lines) made.goes.after tail =
         grows far.count far.choices made.goes.choices far.lines made.lines far.world made.goes.after far.reached far.stands
@@ -105,13 +105,13 @@ module _ (s : ScenarioData) (e : Event) (shown : List Line → List Line) (v aft
             told = refl;
           });
           front = made.front.so_far.done;
-          rest = made.front.rest ++ text_of next.0;
-          splits = sym (append_assoc made.front.so_far.done made.front.rest (text_of next.0))
-              ∙ ap (λ (t : List ℕ). t ++ text_of next.0) made.front.so_far.splits;
-          written = Appends-more first old new (text_of far.lines) made.front.so_far.done far.written made.front.so_far.written;
+          rest = made.front.rest ++ text_of_lines next.0;
+          splits = sym (append_assoc made.front.so_far.done made.front.rest (text_of_lines next.0))
+              ∙ ap (λ (t : List ℕ). t ++ text_of_lines next.0) made.front.so_far.splits;
+          written = Appends-more first old new (text_of_lines far.lines) made.front.so_far.done far.written made.front.so_far.written;
         }
 
-    keeps : WorldStands after far.world × (new ≡ old) → Stopped s shown ends (WorldStands after) first new
+    keeps : WorldStands after far.world × (new ≡ old) → RunWasStopped s shown ends (WorldStands after) first new
     keeps kept = record {
       count = far.count;
       choices = far.choices;
@@ -123,39 +123,39 @@ module _ (s : ScenarioData) (e : Event) (shown : List Line → List Line) (v aft
       stands = kept.0;
       one_less = inl refl;
       front = [];
-      rest = text_of now.0;
+      rest = text_of_lines now.0;
       splits = refl;
-      written = subst (λ (t : List ℕ). Appends first new t) (sym (append-nil (text_of far.lines)))
-          (subst (λ (o : Option (List ℕ)). Appends first o (text_of far.lines)) (sym kept.1) far.written);
+      written = subst (λ (t : List ℕ). Appends first new t) (sym (append-nil (text_of_lines far.lines)))
+          (subst (λ (o : Option (List ℕ)). Appends first o (text_of_lines far.lines)) (sym kept.1) far.written);
     }
 
-    fails_by : Fails s after far.world e shown old new → Stopped s shown ends (WorldStands after) first new
+    fails_by : MakesNone s after far.world e shown old new → RunWasStopped s shown ends (WorldStands after) first new
     fails_by (inl made) = breaks made
     fails_by (inr kept) = keeps kept
 
-    pub halts : ((n : ℕ) (cs : List Bool) (ls : List Line) (w : World) → here n cs ls w → WorldStands v w → Fails s after w e shown old new)
-        → Stopped s shown ends (WorldStands after) first new
+    pub halts : ((n : ℕ) (cs : List Bool) (ls : List Line) (w : World) → here n cs ls w → WorldStands v w → MakesNone s after w e shown old new)
+        → RunWasStopped s shown ends (WorldStands after) first new
     halts fails = fails_by (fails far.count far.choices far.lines far.world far.reached far.stands)
 
 -- the lines behind the events
-module _ (here : Course) (tail : World → List Line) (holds : World → Type 0) (first old new : Option (List ℕ)) (far : SoFar here holds first old) where
+module _ (here : RunDefinition) (tail : World → List Line) (holds : World → Type 0) (first old new : Option (List ℕ)) (far : IsRunSoFar here holds first old) where
   pub completes : (runs : List Line → World → Type 0)
       → ((n : ℕ) (cs : List Bool) (ls : List Line) (w : World) → here n cs ls w → holds w → runs (ls ++ tail w) w)
-      → ((w : World) → holds w → Appends old new (text_of (tail w))) → Completes runs holds first new
+      → ((w : World) → holds w → Appends old new (text_of_lines (tail w))) → Completes runs holds first new
   completes runs whole behind = record {
     lines = far.lines ++ tail far.world;
     world = far.world;
     run = whole far.count far.choices far.lines far.world far.reached far.stands;
     stands = far.stands;
-    written = subst (λ (t : List ℕ). Appends first new t) (sym (text_of-append far.lines (tail far.world)))
-        (Appends-more first old new (text_of far.lines) (text_of (tail far.world)) far.written (behind far.world far.stands));
+    written = subst (λ (t : List ℕ). Appends first new t) (sym (text_of_lines-append far.lines (tail far.world)))
+        (Appends-more first old new (text_of_lines far.lines) (text_of_lines (tail far.world)) far.written (behind far.world far.stands));
   }
 
   pub stops_behind : (s : ScenarioData) (shown : List Line → List Line) (ends : Ends)
       → ((n : ℕ) (cs : List Bool) (ls : List Line) (w : World) → here n cs ls w → holds w → ends n cs ls w (tail w))
-      → ((w : World) → holds w → AppendsFront old new (text_of (tail w))) → Stopped s shown ends holds first new
+      → ((w : World) → holds w → AppendsFront old new (text_of_lines (tail w))) → RunWasStopped s shown ends holds first new
   stops_behind s shown ends all behind =
-      let front : AppendsFront old new (text_of (tail far.world)) = behind far.world far.stands in
+      let front : AppendsFront old new (text_of_lines (tail far.world)) = behind far.world far.stands in
       record {
         count = far.count;
         choices = far.choices;
@@ -170,7 +170,7 @@ module _ (here : Course) (tail : World → List Line) (holds : World → Type 0)
         front = front.so_far.done;
         rest = front.rest;
         splits = front.so_far.splits;
-        written = Appends-more first old new (text_of far.lines) front.so_far.done far.written front.so_far.written;
+        written = Appends-more first old new (text_of_lines far.lines) front.so_far.done far.written front.so_far.written;
       }
 
 -- the run without its last event, told in other words
@@ -196,7 +196,7 @@ one_less_with s shown ends others count choices before last w tells one = record
 pub stopped_with : (s : ScenarioData) (shown : List Line → List Line) (ends others : Ends) (P Q : World → Type 0) (first held : Option (List ℕ))
     → ((n : ℕ) (cs : List Bool) (ls : List Line) (w : World) (tail : List Line) → ends n cs ls w tail → others n cs ls w tail)
     → ((n : ℕ) (cs : List Bool) (ls : List Line) (w : World) (tail : List Line) → ends n cs ls w tail → P w → Q w)
-    → Stopped s shown ends P first held → Stopped s shown others Q first held
+    → RunWasStopped s shown ends P first held → RunWasStopped s shown others Q first held
 stopped_with s shown ends others P Q first held tells gives stopped = record {
   count = stopped.count;
   choices = stopped.choices;

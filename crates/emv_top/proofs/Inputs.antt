@@ -5,35 +5,35 @@ use Rattle.std.specs.List.{All}
 use Rattle.std.proofs.lemmas.List.Sums.{sum_by-cons}
 use Rattle.std.proofs.lemmas.Option.{same_Some}
 use Rattle.emv_top.specs.Input.{first_purchases, with_purchase, IsInput}
-use Rattle.emv_top.specs.declared.words.Order.{Order}
-use Rattle.emv_top.specs.declared.words.Order.TheVariants.{Read, Replay}
-use Rattle.scenario.specs.Plan.{ScenarioData, AreTables, IsScenario}
-use Rattle.scenario.specs.Scenario.{IsReading}
-use Rattle.scenario_fields.specs.Fault.{Tells}
+use Rattle.emv_top.specs.declared.words.Task.{Task}
+use Rattle.emv_top.specs.declared.words.Task.TheVariants.{Read, Replay}
+use Rattle.scenario.specs.Plan.{ScenarioData, AreScenarioTables, IsScenario}
+use Rattle.scenario.specs.Scenario.{ReadsScenario}
+use Rattle.scenario_fields.specs.Fault.{TellsFault}
 use Rattle.scenario_fields.specs.declared.fault.ScenarioFault.{ScenarioFault}
 use Rattle.scenario_fields.specs.declared.fault.ScenarioFault.TheVariants.{Toml, MissingKey, BadValue, OutOfLimit, UnknownKey, UnknownName, OutOfMemory}
 use Rattle.scenario_lanes.specs.Plan.{LaneData, IsPlanned, IsLane, HasCards, HaveRoom, purchase_count}
 use Rattle.scenario_lanes.specs.declared.plan.Planned.{Planned}
 use Rattle.txn_replay.specs.Reading.{untorn, first_untorn, lane_untorn, to_read}
 
-pub fault_input : (order : Order) (bytes : List ℕ) (fault : ScenarioFault) → IsReading bytes (Err fault) → IsInput order bytes (Err fault)
-fault_input order bytes fault reading = record { read = Err fault; reading = reading; serves = refl }
+pub fault_input : (task : Task) (bytes : List ℕ) (fault : ScenarioFault) → ReadsScenario bytes (Err fault) → IsInput task bytes (Err fault)
+fault_input task bytes fault reading = record { read = Err fault; reading = reading; serves = refl }
 
-pub replay_input : (bytes : List ℕ) (s : ScenarioData) → IsReading bytes (Ok s) → IsInput Replay bytes (Ok s)
+pub replay_input : (bytes : List ℕ) (s : ScenarioData) → ReadsScenario bytes (Ok s) → IsInput Replay bytes (Ok s)
 replay_input bytes s reading = record { read = Ok s; reading = reading; serves = refl }
 
 with_some : (s : ScenarioData) (purchases : List Planned) → 1 ≤ length purchases → with_purchase s purchases ≡ Ok s
 with_some s [] some = absurd (omega arith)
 with_some s (planned ∷ others) some = refl
 
-pub read_input : (bytes : List ℕ) (s : ScenarioData) → IsReading bytes (Ok s) → 1 ≤ length (first_purchases s.lanes) → IsInput Read bytes (Ok s)
+pub read_input : (bytes : List ℕ) (s : ScenarioData) → ReadsScenario bytes (Ok s) → 1 ≤ length (first_purchases s.lanes) → IsInput Read bytes (Ok s)
 read_input bytes s reading some = record { read = Ok s; reading = reading; serves = sym (with_some s (first_purchases s.lanes) some) }
 
 pub some_served : (s : ScenarioData) (lane : LaneData) (lanes : List LaneData) → s.lanes ≡ lane ∷ lanes → 1 ≤ length lane.purchases → 1 ≤ length (first_purchases s.lanes)
 some_served s lane lanes is some = subst (λ (ls : List LaneData). 1 ≤ length (first_purchases ls)) (sym is) some
 
 -- the fault of a scenario without such a purchase; want of memory may come in its place
-module _ (bytes : List ℕ) (s : ScenarioData) (reading : IsReading bytes (Ok s)) (none : first_purchases s.lanes ≡ []) where
+module _ (bytes : List ℕ) (s : ScenarioData) (reading : ReadsScenario bytes (Ok s)) (none : first_purchases s.lanes ≡ []) where
   no_purchase : (fault : ScenarioFault) → fault ≡ UnknownName (codes "lane[0].purchase[0]") → IsInput Read bytes (Err fault)
   no_purchase fault told = record {
     read = Ok s;
@@ -41,7 +41,7 @@ module _ (bytes : List ℕ) (s : ScenarioData) (reading : IsReading bytes (Ok s)
     serves = ap (λ (e : ScenarioFault). Err e) told ∙ sym (ap (λ (ps : List Planned). with_purchase s ps) none);
   }
 
-  pub unserved : (fault : ScenarioFault) → Tells fault (UnknownName (codes "lane[0].purchase[0]")) → IsInput Read bytes (Err fault)
+  pub unserved : (fault : ScenarioFault) → TellsFault fault (UnknownName (codes "lane[0].purchase[0]")) → IsInput Read bytes (Err fault)
   unserved OutOfMemory told = fault_input Read bytes OutOfMemory (record { long = λ _. tt; text = λ _ _. tt; other = λ _ _. tt })
   unserved Toml told = no_purchase Toml told
   unserved (MissingKey path) told = no_purchase (MissingKey path) told
@@ -113,7 +113,7 @@ pub same_first : (lanes : List LaneData) → length (first_purchases (lane_untor
 same_first [] = refl
 same_first (lane ∷ lanes) = same_purchases lane.purchases
 
-untorn_tables : (s : ScenarioData) → AreTables s → AreTables (to_read s)
+untorn_tables : (s : ScenarioData) → AreScenarioTables s → AreScenarioTables (to_read s)
 untorn_tables s is = record {
   few_accounts = is.few_accounts;
   accounts = is.accounts;

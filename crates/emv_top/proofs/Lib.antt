@@ -23,4 +23,5 @@ pub mod Accepting
 pub mod Booked
 pub mod Summing
 pub mod Checked
+pub mod Fulfilling
 pub mod Entries

@@ -3,19 +3,19 @@ use Rattle.std.proofs.Common.{◌≡◌, ℕ, List, [], ◌∷◌, ◌++◌, Non
 use Rattle.std.specs.declared.option.Option.{Option}
 use Rattle.std.specs.Io.KnownBytes.{Appends}
 use Rattle.emv_ports.specs.Growth.{IsSoFar, AppendsFront}
-use Rattle.emv_ports.proofs.Growth.{IsSoFar_start, IsSoFar_more, IsSoFar_front, AppendsFront-first, AppendsFront-second}
+use Rattle.emv_ports.proofs.Growth.{Appends-more, IsSoFar_start, IsSoFar_more, IsSoFar_front, AppendsFront-first, AppendsFront-second}
 use Rattle.env_map.specs.Entries.{Entries, entries_after}
 use Rattle.emv_top.specs.Short.{AllShort}
-use Rattle.emv_top.specs.Texts.{text_of}
-use Rattle.emv_top.proofs.Closings.{text_of-one}
-use Rattle.emv_top.proofs.Writing.{text_of-append}
+use Rattle.emv_top.specs.Texts.{text_of_lines}
+use Rattle.emv_top.proofs.Closings.{text_of_lines-one}
+use Rattle.emv_top.proofs.Writing.{text_of_lines-append}
 use Rattle.report_text.specs.Text.{line_text}
 use Rattle.report_text.specs.declared.line.Line.TheVariants.{ReadOk}
 use Rattle.txn_replay.specs.Reading.{object_line}
 
 -- the text of these objects' lines
 abbrev pub objects_text : Entries → List ℕ
-objects_text entries = text_of (map object_line entries)
+objects_text entries = text_of_lines (map object_line entries)
 
 all_entries : (entries : Entries) → entries_after None entries ≡ entries
 all_entries [] = refl
@@ -42,15 +42,18 @@ rest_short left rest entry is short = (subst (λ (es : Entries). AllShort es) is
 
 -- the objects' lines and the last one
 module _ (entries given : Entries) (same : given ≡ entries) (old mid new : Option (List ℕ)) where
-  both : objects_text given ++ line_text ReadOk ≡ text_of (map object_line entries ++ ReadOk ∷ [])
+  both : objects_text given ++ line_text ReadOk ≡ text_of_lines (map object_line entries ++ ReadOk ∷ [])
   both =
       ap (λ (es : Entries). objects_text es ++ line_text ReadOk) same
-      ∙ sym (text_of-append (map object_line entries) (ReadOk ∷ []) ∙ ap (λ (t : List ℕ). objects_text entries ++ t) (text_of-one ReadOk))
+      ∙ sym (text_of_lines-append (map object_line entries) (ReadOk ∷ []) ∙ ap (λ (t : List ℕ). objects_text entries ++ t) (text_of_lines-one ReadOk))
 
-  pub card_front : AppendsFront old new (objects_text given) → AppendsFront old new (text_of (map object_line entries ++ ReadOk ∷ []))
+  pub card_front : AppendsFront old new (objects_text given) → AppendsFront old new (text_of_lines (map object_line entries ++ ReadOk ∷ []))
   card_front stopped = subst (λ (t : List ℕ). AppendsFront old new t) both (AppendsFront-first old new (objects_text given) (line_text ReadOk) stopped)
 
   pub card_end_front : Appends old mid (objects_text given) → AppendsFront mid new (line_text ReadOk)
-      → AppendsFront old new (text_of (map object_line entries ++ ReadOk ∷ []))
+      → AppendsFront old new (text_of_lines (map object_line entries ++ ReadOk ∷ []))
   card_end_front all stopped =
       subst (λ (t : List ℕ). AppendsFront old new t) both (AppendsFront-second old mid new (objects_text given) (line_text ReadOk) all stopped)
+
+  pub card_end : Appends old mid (objects_text given) → Appends mid new (line_text ReadOk) → Appends old new (text_of_lines (map object_line entries ++ ReadOk ∷ []))
+  card_end all last = subst (λ (t : List ℕ). Appends old new t) both (Appends-more old mid new (objects_text given) (line_text ReadOk) all last)

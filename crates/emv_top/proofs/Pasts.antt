@@ -3,7 +3,7 @@ use Rattle.std.proofs.Common.{◌≡◌, ℕ, Bool, true, List, [], ◌∷◌, �
 use Rattle.std.specs.List.{AllByRecursion}
 use Rattle.capture_store.specs.StoreRow.{commit_next, opened_to_add}
 use Rattle.card_state.specs.Decisions.{Decided}
-use Rattle.emv_ports.specs.Cut.{is_named}
+use Rattle.emv_ports.specs.Cut.{names_commit}
 use Rattle.kernel.specs.Ended.{EndData}
 use Rattle.kernel.specs.Reply.{Reply}
 use Rattle.report_text.specs.declared.line.Line.{Line}
@@ -11,8 +11,8 @@ use Rattle.txn_replay.specs.Part.{Part, loses}
 use Rattle.txn_replay.specs.Payment.{Payment, end_at}
 use Rattle.txn_replay.specs.Storing.{part_with, lane_piece}
 use Rattle.txn_replay.specs.World.{Past, CardRow, LaneRow}
-use Rattle.txn_replay.proofs.Exchanging.{Tells, StoreTells, lane_tells}
-use Rattle.txn_replay.proofs.Sending.{Later, later_ended}
+use Rattle.txn_replay.proofs.ExchangeLaws.ExchangeCases.{Tells, StoreTells, lane_tells}
+use Rattle.txn_replay.proofs.ExchangeLaws.LaneMessages.{Later, later_ended}
 
 one_more : (P : Past → Type 0) (pasts : List Past) (past : Past) → AllByRecursion P pasts → P past → AllByRecursion P (pasts ++ past ∷ [])
 one_more P [] past all one = (one, tt)
@@ -21,7 +21,7 @@ one_more P (first ∷ pasts) past all one = (all.0, one_more P pasts past all.1 
 module _ (P : Past → Type 0) (p : Payment)
     (ended : (began : Option (List Decided)) (replies : List Reply) (end : EndData) (lost : Bool) → end_at p replies ≡ Some end
     → P (record { began = began; replies = replies; end = Some end; lost = lost }))
-    (cut : (n : ℕ) → is_named p.planned.terminal_tear n ≡ true → P (record { began = None; replies = []; end = None; lost = true })) where
+    (cut : (n : ℕ) → names_commit p.planned.terminal_tear n ≡ true → P (record { began = None; replies = []; end = None; lost = true })) where
   module _ (part : Part) (before : AllByRecursion P part.lane.ended) where
     abbrev Came : LaneRow → List Reply → CardRow → List (List ℕ) → List Line → Type 0
     Came lane replies card messages lines = Unit {0}
@@ -49,7 +49,7 @@ module _ (P : Past → Type 0) (p : Payment)
       hosts = λ replies runs message asks reply is. tt;
     }
 
-    lost_all : (n : ℕ) → is_named p.planned.terminal_tear n ≡ true
+    lost_all : (n : ℕ) → names_commit p.planned.terminal_tear n ≡ true
         → AllByRecursion P (part.lane.ended ++ record { began = None; replies = []; end = None; lost = true } ∷ [])
     lost_all n named = one_more P part.lane.ended (record { began = None; replies = []; end = None; lost = true }) before (cut n named)
 

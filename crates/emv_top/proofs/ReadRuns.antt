@@ -13,11 +13,11 @@ use Rattle.txn_replay.specs.Payment.{Payment, payment_with, payment_of, payment_
 use Rattle.txn_replay.specs.Reading.{ReadReached, start, turned}
 use Rattle.txn_replay.specs.Run.{Reached, Scheduled}
 use Rattle.txn_replay.specs.Run as run
-use Rattle.txn_replay.specs.Sound.{IsSound, IsIdle, IsHeld, HeldBy}
+use Rattle.txn_replay.specs.Sound.{IsWorldSound, IsIdle, IsCardInUse, HeldBy}
 use Rattle.txn_replay.specs.Steps.{Step}
 use Rattle.txn_replay.specs.World.{Holder, Past, World, LaneRow, new_lane, lane_at, card_at}
 use Rattle.txn_replay.specs.declared.event.Event.TheVariants.{Turn}
-use Rattle.txn_replay.proofs.Apart.{lanes_apart}
+use Rattle.txn_replay.proofs.RunLaws.LanesApart.{lanes_apart}
 use Rattle.txn_replay.proofs.Lists.{get_or-map_const, some_at}
 
 -- the scenario with turns of its first lane alone
@@ -89,7 +89,7 @@ some_payment s is some = by_lanes s.lanes refl some
         (found.0, ap (λ (ls : List LaneData). option_and_then (payment_on s 0 0) (slice_get ls 0)) same ∙ found.1)
 
 -- a reading that isn't over goes on
-module _ (s : ScenarioData) (w : World) (sound : IsSound s w) (rests : OthersRest w) where
+module _ (s : ScenarioData) (w : World) (sound : IsWorldSound s w) (rests : OthersRest w) where
   no_holder : (i : ℕ) (h : Holder) → (lane_at w 0).running ≡ None → (card_at w i).holder ≡ Some h → ⊥
   no_holder i h idle held = by_lane h.lane refl
     where
@@ -112,6 +112,6 @@ module _ (s : ScenarioData) (w : World) (sound : IsSound s w) (rests : OthersRes
           let first : (p : Payment) × (payment_in s 0 0 ≡ Some p) = some_payment s is some in
           (first.0, ap (λ (pasts : List Past). payment_in s 0 (length pasts)) ended ∙ first.1)
 
-      by_wait : (next_of s w 0 ≡ None) ⊎ IsHeld s w 0 → ⊥
+      by_wait : (next_of s w 0 ≡ None) ⊎ IsCardInUse s w 0 → ⊥
       by_wait (inl none) = (let some : next_of s w 0 ≡ Some next.0 = next.1 in cc)
       by_wait (inr held) = no_holder held.payment.planned.card held.holder idle.rests held.held

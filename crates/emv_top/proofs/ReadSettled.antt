@@ -21,7 +21,7 @@ use Rattle.txn_replay.specs.Storing.{lane_piece}
 use Rattle.txn_replay.specs.World.{CardRow, World, new_card, card_at}
 use Rattle.txn_replay.specs.declared.event.Event.TheVariants.{Turn}
 use Rattle.txn_replay.proofs.Lists.{at_set, get_or-map_const}
-use Rattle.txn_replay.proofs.Losses.{lane_told}
+use Rattle.txn_replay.proofs.CardLaws.ExchangeLosses.{lane_told}
 
 -- as if it had never been used
 abbrev pub AllSettled : World → Type 0

@@ -2,7 +2,7 @@
 use Rattle.std.proofs.Common.{◌≡◌, ℕ, ◌+◌, ◌&&◌, cond, Bool, true, false, if◌then◌else◌, List, [], ◌∷◌, ◌++◌, drop, Option, Some, None, refl, sym, ap, ◌∙◌, subst, arith}
 use Rattle.std.specs.Prelude.{option_and_then}
 use Rattle.std.proofs.lemmas.List.Sums.{sum_by-append, sum_by-cons}
-use Rattle.capture_store.specs.Calls.{Call, found_by}
+use Rattle.capture_store.specs.Calls.{Call, list_found}
 use Rattle.capture_store.specs.StoreRow.{StoreRow, commit_next, opened_to_add, delivered_by, ended_by}
 use Rattle.emv_dict.specs.declared.ending.Ending.{Ending}
 use Rattle.emv_ports.specs.declared.tear.Tear.{Tear}
@@ -15,15 +15,15 @@ use Rattle.report_text.specs.declared.line.Line.{Line}
 use Rattle.scenario.specs.Plan.{ScenarioData}
 use Rattle.txn_replay.specs.Counting.{lost_count}
 use Rattle.txn_replay.specs.Part.{Part, loses, lane_ended}
-use Rattle.txn_replay.specs.Payment.{Payment, deal_for, next_of}
+use Rattle.txn_replay.specs.Payment.{Payment, outset_for, next_of}
 use Rattle.txn_replay.specs.Reading.{ReadReached, start, turned, is_read, is_read_by, data_after, data_by, data_at, ending_at, to_read, lane_untorn}
 use Rattle.txn_replay.specs.Steps.{part_of, choice_in, turned_by}
 use Rattle.txn_replay.specs.Stored.{IsEmptied}
 use Rattle.txn_replay.specs.Storing.{part_with}
 use Rattle.txn_replay.specs.World.{Past, CardRow, LaneRow, World, new_lane, lane_at}
-use Rattle.txn_replay.proofs.Exchanging.{Tells, StoreTells, lane_tells}
+use Rattle.txn_replay.proofs.ExchangeLaws.ExchangeCases.{Tells, StoreTells, lane_tells}
 use Rattle.txn_replay.proofs.Lists.{at_set, get_or-map_const}
-use Rattle.txn_replay.proofs.Sending.{Later, as_is, beginning, messaging}
+use Rattle.txn_replay.proofs.ExchangeLaws.LaneMessages.{Later, as_is, beginning, messaging}
 
 -- no purchase of the lane was lost, and its store is empty
 pub record IsKept (row : LaneRow) : Type 0 where
@@ -37,7 +37,7 @@ kept_more ended past kept before =
     let none : ◌≡◌ {A = ℕ} (cond past.lost 1 0) 0 = ap (λ (b : Bool). cond b 1 0) kept in omega (arith, more, one, none, before)
 
 -- an opening finds an empty list where it was empty and no call was lost, and dropping leaves it empty
-none_found : (list : List (List ℕ)) (lost : Option Call) (one : Bool) → list ≡ [] → lost ≡ None → found_by list lost one ≡ []
+none_found : (list : List (List ℕ)) (lost : Option Call) (one : Bool) → list ≡ [] → lost ≡ None → list_found list lost one ≡ []
 none_found list None one empty none = empty
 none_found list (Some call) one empty none = absurd (cc none)
 
@@ -74,16 +74,16 @@ module _ (p : Payment) (replies : List Reply) (end : EndData) (none : end.captur
   }
 
 abbrev Came : Payment → LaneRow → List Reply → CardRow → List (List ℕ) → List Line → Type 0
-Came p lane replies card messages lines = CapturesNothing (deal_for p) replies
+Came p lane replies card messages lines = CapturesNothing (outset_for p) replies
 
 abbrev Behind : Part → List Line → Type 0
 Behind after lines = IsKept after.lane
 
 -- with the next reply nothing is captured
 abbrev Reads : Payment → Part → Type 0
-Reads p part = (replies : List Reply) → part.lane.running ≡ Some replies → (reply : Reply) → CapturesNothing (deal_for p) (replies ++ reply ∷ [])
+Reads p part = (replies : List Reply) → part.lane.running ≡ Some replies → (reply : Reply) → CapturesNothing (outset_for p) (replies ++ reply ∷ [])
 
-module _ (p : Payment) (spared : IsUntorn p) (first : CapturesNothing (deal_for p) []) where
+module _ (p : Payment) (spared : IsUntorn p) (first : CapturesNothing (outset_for p) []) where
   module _ (part : Part) (before : IsKept part.lane) (reads : Reads p part) where
     later_kept : (lane : LaneRow) → Later part.lane lane → IsKept lane
     later_kept _ as_is = before
@@ -134,7 +134,7 @@ module _ (whole : ScenarioData) (nothing : ReadingCapturesNothing) where
   -- while the card isn't read, nothing is captured with the next reply
   reads_on : (w : World) → is_read (to_read whole) w ≡ false → (p : Payment) → next_of (to_read whole) w 0 ≡ Some p → (i : ℕ) → Reads p (part_of w 0 i)
   reads_on w unread p is i replies runs reply =
-      nothing.read (deal_for p) replies reply
+      nothing.read (outset_for p) replies reply
       (sym (ap (λ (o : Option Payment). option_and_then (data_after replies) o) is) ∙ sym (ap (data_by (to_read whole) w 0) runs)
       ∙ none_read (data_at (to_read whole) w 0) (ending_at w 0) unread)
 
@@ -145,7 +145,7 @@ module _ (whole : ScenarioData) (nothing : ReadingCapturesNothing) where
       let part : Part = part_of w 0 p.planned.card in
       at_set (λ (l : ℕ) (row : LaneRow). IsKept row) w.lanes 0 _ new_lane
       (lane_tells p part (Came p) Behind
-      (store_kept p (spared p refl) (nothing.first (deal_for p)) part (all 0) (reads p refl p.planned.card)) (choice_in choices 0) (choice_in choices 1)) all
+      (store_kept p (spared p refl) (nothing.first (outset_for p)) part (all 0) (reads p refl p.planned.card)) (choice_in choices 0) (choice_in choices 1)) all
 
   pub read_stored : (n : ℕ) (cs : List Bool) (ls : List Line) (w : World) → ReadReached (to_read whole) n cs ls w → AllKept w
   read_stored _ _ _ _ start l = subst (λ (row : LaneRow). IsKept row) (sym (get_or-map_const (lane_untorn whole.lanes) l new_lane)) first_kept

@@ -16,27 +16,27 @@ use Rattle.ber_tlv.proofs.WalkBounds.{WalkShort, ItemsShort, walk_values_short, 
 use Rattle.emv_dict.specs.Progress as progress
 use Rattle.emv_dict.specs.declared.ending.Cause.{Cause}
 use Rattle.emv_dict.specs.declared.ending.Cause.TheVariants as cause
-use Rattle.env_map.specs.Entries.{Entries, value_of, with_entry, size_of_values}
+use Rattle.env_map.specs.Entries.{Entries, value_of, with_object, size_of_values}
 use Rattle.env_map.specs.Gathered.{primitives}
 use Rattle.env_map.specs.Put.{put_of}
 use Rattle.env_map.specs.declared.env.EnvFault.{EnvFault}
 use Rattle.env_map.specs.declared.env.EnvFault.TheVariants.{Repeated, TooMany, TooLong}
-use Rattle.emv_top.specs.Short.{AllShort, IsShort}
-use Rattle.object_lists.specs.CardRead.{ReadCard, card_of}
+use Rattle.emv_top.specs.Short.{AllShort, HasShortObjects}
+use Rattle.object_lists.specs.CardRead.{ReadCard, card_of_objects}
 use Rattle.object_lists.specs.Checked.{objects_fault}
 use Rattle.read_records.proofs.Room.{body_short}
 use Rattle.read_records.specs.Afl.{RecordPlace, groups_of}
 use Rattle.read_records.specs.DataRead.{card_unless, finished, read_on, reading}
-use Rattle.read_records.specs.Options.{Opened, opened, opened_by, in_format_one, of_objects, in_format_two, by_format, options_in, Said, Refused, Granted, Faulty, granted_by, response_said, options_said, after_options, initiated, initiating_with, initiating, options_data}
-use Rattle.read_records.specs.Records.{Held, in_template, held_in_body, held_in_response, held_in, then_held, joined, held_in_all, then_put, all_put, unless_fault, gathered_all}
+use Rattle.read_records.specs.Options.{Opened, profile_and_locator, opened_by, options_in_format_one, options_of_objects, options_in_format_two, options_by_format, options_in, OptionsSaid, Refused, Granted, Faulty, granted_by, response_said, options_said, after_options, initiated, initiating_with, initiating, options_data}
+use Rattle.read_records.specs.Records.{Held, in_template, held_in_body, held_in_response, held_in, then_held, all_held, held_in_all, then_put, all_put, data_unless_fault, gathered_all}
 use Rattle.read_records.specs.declared.afl.Group.{Group}
 
-with_entry-short : (tag : ℕ) (value : List ℕ) (entries : Entries) → length value ≤ 256 → AllShort entries → AllShort (with_entry tag value entries)
-with_entry-short tag value [] here all = (here, tt)
-with_entry-short tag value (entry ∷ entries) here all =
-    elim (nat_lt tag entry.0) as (λ b. AllShort (if b then (tag, value) ∷ entry ∷ entries else entry ∷ with_entry tag value entries)) [
+with_object-short : (tag : ℕ) (value : List ℕ) (entries : Entries) → length value ≤ 256 → AllShort entries → AllShort (with_object tag value entries)
+with_object-short tag value [] here all = (here, tt)
+with_object-short tag value (entry ∷ entries) here all =
+    elim (nat_lt tag entry.0) as (λ b. AllShort (if b then (tag, value) ∷ entry ∷ entries else entry ∷ with_object tag value entries)) [
       | true ↦ (here, all)
-      | false ↦ (all.0, with_entry-short tag value entries here all.1)
+      | false ↦ (all.0, with_object-short tag value entries here all.1)
     ]
 
 put_of-short : (tag : Tag) (value : List ℕ) (entries more : Entries) → length value ≤ 256 → AllShort entries → put_of tag value entries ≡ Ok more → AllShort more
@@ -44,12 +44,12 @@ put_of-short tag value entries more here all put =
     go (is_some (value_of tag.0 entries)) (nat_le 512 (length entries)) (nat_lt 16384 (size_of_values entries + length value)) put
   where
     go : (repeated many long : Bool)
-        → ◌≡◌ {A = Result Entries EnvFault} (if repeated then Err (Repeated tag) else if many then Err TooMany else if long then Err TooLong else Ok (with_entry tag.0 value entries)) (Ok more)
+        → ◌≡◌ {A = Result Entries EnvFault} (if repeated then Err (Repeated tag) else if many then Err TooMany else if long then Err TooLong else Ok (with_object tag.0 value entries)) (Ok more)
         → AllShort more
     go true many long e = cc
     go false true long e = cc
     go false false true e = cc
-    go false false false e = let same : with_entry tag.0 value entries ≡ more = cc e in subst AllShort same (with_entry-short tag.0 value entries here all)
+    go false false false e = let same : with_object tag.0 value entries ≡ more = cc e in subst AllShort same (with_object-short tag.0 value entries here all)
 
 -- each value of these objects has at most 256 bytes
 abbrev pub AreShort : List ItemData → Type 0
@@ -97,10 +97,10 @@ then_held-short : (objects : List ItemData) (fault : Option Cause) (later : Held
 then_held-short objects (Some because) later first second = first
 then_held-short objects None later first second = both_short objects later.objects first second
 
-joined_short : (reads : List (RecordPlace × List ℕ)) → AreShort (joined (map (λ read. held_in read.0.sfi read.1) reads)).objects
+joined_short : (reads : List (RecordPlace × List ℕ)) → AreShort (all_held (map (λ read. held_in read.0.sfi read.1) reads)).objects
 joined_short [] = tt
 joined_short (read ∷ reads) =
-    then_held-short (held_in read.0.sfi read.1).objects (held_in read.0.sfi read.1).fault (joined (map (λ r. held_in r.0.sfi r.1) reads))
+    then_held-short (held_in read.0.sfi read.1).objects (held_in read.0.sfi read.1).fault (all_held (map (λ r. held_in r.0.sfi r.1) reads))
     (held_in-short read.0.sfi read.1) (joined_short reads)
 
 then_put-short : (put : Result Entries EnvFault) (next : Entries → Result Entries Cause) (more : Entries)
@@ -114,31 +114,31 @@ all_put-short entries (item ∷ items) more all short e =
     then_put-short (put_of (record { 0 = item.tag }) item.value entries) (λ next. all_put next items) more
     (λ next put on. all_put-short next items more (put_of-short (record { 0 = item.tag }) item.value entries next short.0 all put) short.1 on) e
 
-unless_fault-short : (fault : Option Cause) (put : Result Entries Cause) (more : Entries) → ((entries : Entries) → put ≡ Ok entries → AllShort entries)
-    → unless_fault fault put ≡ Ok more → AllShort more
-unless_fault-short fault (Err because) more each e = cc
-unless_fault-short None (Ok entries) more each e = each more e
-unless_fault-short (Some because) (Ok entries) more each e = cc
+data_unless_fault-short : (fault : Option Cause) (put : Result Entries Cause) (more : Entries) → ((entries : Entries) → put ≡ Ok entries → AllShort entries)
+    → data_unless_fault fault put ≡ Ok more → AllShort more
+data_unless_fault-short fault (Err because) more each e = cc
+data_unless_fault-short None (Ok entries) more each e = each more e
+data_unless_fault-short (Some because) (Ok entries) more each e = cc
 
 gathered_all-short : (entries : Entries) (places : List RecordPlace) (answers : List (List ℕ)) (more : Entries) → AllShort entries
     → gathered_all entries (held_in_all places answers) ≡ Ok more → AllShort more
 gathered_all-short entries places answers more all e =
-    unless_fault-short (held_in_all places answers).fault (all_put entries (held_in_all places answers).objects) more
+    data_unless_fault-short (held_in_all places answers).fault (all_put entries (held_in_all places answers).objects) more
     (λ next put. all_put-short entries (held_in_all places answers).objects next all (joined_short (zip places answers)) put) e
 
 finished_short : (entries : Entries) (fault : Option Cause) (answers : List (List ℕ)) (card : ReadCard) (rest : List (List ℕ)) → AllShort entries
-    → finished (card_unless entries fault) answers ≡ progress.Done card rest → IsShort card
-finished_short entries None answers card rest all e = let same : card_of entries ≡ card = cc e in subst IsShort same all
+    → finished (card_unless entries fault) answers ≡ progress.Done card rest → HasShortObjects card
+finished_short entries None answers card rest all e = let same : card_of_objects entries ≡ card = cc e in subst HasShortObjects same all
 finished_short entries (Some because) answers card rest all e = cc
 
 read_on-short : (read : Result Entries Cause) (left : List RecordPlace) (answers : List (List ℕ)) (card : ReadCard) (rest : List (List ℕ))
-    → ((entries : Entries) → read ≡ Ok entries → AllShort entries) → read_on read left answers ≡ progress.Done card rest → IsShort card
+    → ((entries : Entries) → read ≡ Ok entries → AllShort entries) → read_on read left answers ≡ progress.Done card rest → HasShortObjects card
 read_on-short (Err because) left answers card rest each e = cc
 read_on-short (Ok entries) (place ∷ left) answers card rest each e = cc
 read_on-short (Ok entries) [] answers card rest each e = finished_short entries (objects_fault entries) answers card rest (each entries refl) e
 
 pub reading_short : (start : Opened) (answers : List (List ℕ)) (card : ReadCard) (rest : List (List ℕ)) → AllShort start.entries
-    → reading start answers ≡ progress.Done card rest → IsShort card
+    → reading start answers ≡ progress.Done card rest → HasShortObjects card
 unfolding reading
 reading_short start answers card rest all e =
     read_on-short (gathered_all start.entries (held_in_all start.left answers)) (drop (length answers) start.left) (drop (length start.left) answers) card rest
@@ -151,21 +151,21 @@ opened_by-short profile locator (Ok groups) start first second e =
     let same : (0x82, profile) ∷ (0x94, locator) ∷ [] ≡ start.entries = cc e in subst AllShort same (first, (second, tt))
 opened_by-short profile locator (Err number) start first second e = cc
 
-in_format_one-short : (value : List ℕ) (start : Opened) → length value ≤ 256 → in_format_one value ≡ Ok start → AllShort start.entries
-in_format_one-short value start fits e = go (nat_lt (length value) 2) e
+options_in_format_one-short : (value : List ℕ) (start : Opened) → length value ≤ 256 → options_in_format_one value ≡ Ok start → AllShort start.entries
+options_in_format_one-short value start fits e = go (nat_lt (length value) 2) e
   where
-    go : (few : Bool) → (if few then Err (cause.Value (record { 0 = 0x80 })) else opened (take 2 value) (drop 2 value)) ≡ Ok start → AllShort start.entries
+    go : (few : Bool) → (if few then Err (cause.Value (record { 0 = 0x80 })) else profile_and_locator (take 2 value) (drop 2 value)) ≡ Ok start → AllShort start.entries
     go true e = cc
     go false e =
         opened_by-short (take 2 value) (drop 2 value) (groups_of (drop 2 value)) start (omega (arith, length-take 2 value)) (omega (arith, length-drop 2 value)) e
 
-of_objects-short : (profile locator : Option (List ℕ)) (start : Opened) → ((v : List ℕ) → profile ≡ Some v → length v ≤ 256) → ((v : List ℕ) → locator ≡ Some v → length v ≤ 256)
-    → of_objects profile locator ≡ Ok start → AllShort start.entries
-of_objects-short None locator start first second e = cc
-of_objects-short (Some profile) None start first second e = cc
-of_objects-short (Some profile) (Some locator) start first second e = go (length profile == 2) e
+options_of_objects-short : (profile locator : Option (List ℕ)) (start : Opened) → ((v : List ℕ) → profile ≡ Some v → length v ≤ 256) → ((v : List ℕ) → locator ≡ Some v → length v ≤ 256)
+    → options_of_objects profile locator ≡ Ok start → AllShort start.entries
+options_of_objects-short None locator start first second e = cc
+options_of_objects-short (Some profile) None start first second e = cc
+options_of_objects-short (Some profile) (Some locator) start first second e = go (length profile == 2) e
   where
-    go : (b : Bool) → (if b then opened profile locator else Err (cause.Value (record { 0 = 0x82 }))) ≡ Ok start → AllShort start.entries
+    go : (b : Bool) → (if b then profile_and_locator profile locator else Err (cause.Value (record { 0 = 0x82 }))) ≡ Ok start → AllShort start.entries
     go true e = opened_by-short profile locator (groups_of locator) start (first profile refl) (second locator refl) e
     go false e = cc
 
@@ -178,16 +178,16 @@ first_value-short tag (item ∷ items) value short e = go (item.tag == tag) (λ 
     go true later e = let same : item.value ≡ value = cc e in subst (λ (v : List ℕ). length v ≤ 256) same short.0
     go false later e = later e
 
-in_format_two-short : (body : List ℕ) (items : Result (List ItemData) TlvFault) (start : Opened) → ItemsShort 256 items → in_format_two body items ≡ Ok start → AllShort start.entries
-in_format_two-short body (Ok items) start short e =
-    of_objects-short (first_value 0x82 items) (first_value 0x94 items) start (λ v is. first_value-short 0x82 items v short is) (λ v is. first_value-short 0x94 items v short is) e
-in_format_two-short body (Err fault) start short e = cc
+options_in_format_two-short : (body : List ℕ) (items : Result (List ItemData) TlvFault) (start : Opened) → ItemsShort 256 items → options_in_format_two body items ≡ Ok start → AllShort start.entries
+options_in_format_two-short body (Ok items) start short e =
+    options_of_objects-short (first_value 0x82 items) (first_value 0x94 items) start (λ v is. first_value-short 0x82 items v short is) (λ v is. first_value-short 0x94 items v short is) e
+options_in_format_two-short body (Err fault) start short e = cc
 
-by_format-short : (body : List ℕ) (value template : Option (List ℕ)) (start : Opened) → ((v : List ℕ) → value ≡ Some v → length v ≤ 256) → ((v : List ℕ) → template ≡ Some v → length v ≤ 256)
-    → by_format body value template ≡ Ok start → AllShort start.entries
-by_format-short body (Some value) template start first second e = in_format_one-short value start (first value refl) e
-by_format-short body None (Some value) start first second e = in_format_two-short body (items_of value) start (item_values_short 256 value (second value refl)) e
-by_format-short body None None start first second e = cc
+options_by_format-short : (body : List ℕ) (value template : Option (List ℕ)) (start : Opened) → ((v : List ℕ) → value ≡ Some v → length v ≤ 256) → ((v : List ℕ) → template ≡ Some v → length v ≤ 256)
+    → options_by_format body value template ≡ Ok start → AllShort start.entries
+options_by_format-short body (Some value) template start first second e = options_in_format_one-short value start (first value refl) e
+options_by_format-short body None (Some value) start first second e = options_in_format_two-short body (items_of value) start (item_values_short 256 value (second value refl)) e
+options_by_format-short body None None start first second e = cc
 
 sole_value-short : (tag : ℕ) (items : Result (List ItemData) TlvFault) (value : List ℕ) → ItemsShort 256 items → sole_value tag items ≡ Some value → length value ≤ 256
 sole_value-short tag (Ok []) value short e = cc
@@ -202,7 +202,7 @@ sole_value-short tag (Err fault) value short e = cc
 options_in-short : (body : List ℕ) (start : Opened) → length body ≤ 256 → options_in body ≡ Ok start → AllShort start.entries
 unfolding options_in
 options_in-short body start fits e =
-    by_format-short body (sole_value 0x80 (items_of body)) (sole_value 0x77 (items_of body)) start
+    options_by_format-short body (sole_value 0x80 (items_of body)) (sole_value 0x77 (items_of body)) start
     (λ v is. sole_value-short 0x80 (items_of body) v (item_values_short 256 body fits) is)
     (λ v is. sole_value-short 0x77 (items_of body) v (item_values_short 256 body fits) is) e
 
@@ -228,7 +228,7 @@ abbrev pub BeginsShort : Option Opened → Type 0
 BeginsShort None = ⊤
 BeginsShort (Some start) = AllShort start.entries
 
-after_options-short : (said : Said) (answers : List (List ℕ)) (found : Option Opened) (rest : List (List ℕ))
+after_options-short : (said : OptionsSaid) (answers : List (List ℕ)) (found : Option Opened) (rest : List (List ℕ))
     → ((start : Opened) → said ≡ Granted start → AllShort start.entries) → after_options said answers ≡ progress.Done found rest → BeginsShort found
 after_options-short Refused answers found rest each e = let same : ◌≡◌ {A = Option Opened} None found = cc e in subst BeginsShort same tt
 after_options-short (Granted start) answers found rest each e = let same : Some start ≡ found = cc e in subst BeginsShort same (each start refl)

@@ -12,16 +12,16 @@ use Rattle.scenario.specs.Plan.{ScenarioData}
 use Rattle.txn_replay.specs.Changes.{powered, exchanged}
 use Rattle.txn_replay.specs.Part.{Moved}
 use Rattle.txn_replay.specs.Payment.{Payment, next_of}
-use Rattle.txn_replay.specs.Run.{Place, Scheduled, Round, Settling, Auditing, Finished, Reached, start, scheduled, rounds, round, again, settlement, settling, audit, auditing, finished}
+use Rattle.txn_replay.specs.Run.{RunPlace, Scheduled, Round, Settling, Auditing, Finished, Reached, start, scheduled, rounds, round, again, settlement, settling, audit, auditing, finished}
 use Rattle.txn_replay.specs.Steps.{Settlement, Opens, Sends, settlements, settles, Check, PowersUp, Asks, card_checks, checks_from, checks, audits, part_of, choice_in, turned_by, happens}
 use Rattle.txn_replay.specs.Storing.{lane_piece}
 use Rattle.txn_replay.specs.World.{CardRow, World, new_card, first_world, card_at, lane_at}
 use Rattle.txn_replay.specs.declared.event.Event.{Event}
 use Rattle.txn_replay.specs.declared.event.Event.TheVariants.{Turn, Settle, Audit}
-use Rattle.txn_replay.proofs.Checks.{power_check}
-use Rattle.txn_replay.proofs.Folding.{reached_keeps}
+use Rattle.txn_replay.proofs.AuditLaws.AuditNumbers.{power_check}
+use Rattle.txn_replay.proofs.RunLaws.CardsReached.{reached_keeps}
 use Rattle.txn_replay.proofs.Lists.{at_set, get_or-map_const, append_first}
-use Rattle.txn_replay.proofs.Payments.{payment_facts}
+use Rattle.txn_replay.proofs.ExchangeLaws.PurchaseFacts.{payment_facts}
 
 -- an element is the new one, or there is none
 set_here : {A : Type 0} (xs : List A) (i : ℕ) (a d : A) → (get_or (set xs i a) i d ≡ a) ⊎ (get_or (set xs i a) i d ≡ d)
@@ -61,7 +61,7 @@ check_settles w choices i card o is =
 abbrev pub AuditedTo : ScenarioData → ℕ → World → Type 0
 AuditedTo s k w = (i : ℕ) (card : CardData) (j : ℕ) → j < k → slice_get (checks s) j ≡ Some (PowersUp i card) → IsSettled (card_at w i)
 
-abbrev pub Audited : ScenarioData → Place → World → Type 0
+abbrev pub Audited : ScenarioData → RunPlace → World → Type 0
 Audited s (Scheduled k) w = ⊤
 Audited s (Round l) w = ⊤
 Audited s (Settling k) w = ⊤
@@ -81,7 +81,7 @@ below_end (y ∷ ys) zero (suc k) x here none = omega arith
 below_end (y ∷ ys) (suc j) zero x here none = absurd (cc)
 below_end (y ∷ ys) (suc j) (suc k) x here none = (let less : j < k = below_end ys j k x here none in omega arith)
 
-audited : (s : ScenarioData) (place : Place) (n : ℕ) (cs : List Bool) (ls : List Line) (w : World) → Reached s place n cs ls w → Audited s place w
+audited : (s : ScenarioData) (place : RunPlace) (n : ℕ) (cs : List Bool) (ls : List Line) (w : World) → Reached s place n cs ls w → Audited s place w
 audited s _ _ _ _ _ start = tt
 audited s _ _ _ _ _ (scheduled before at step) = tt
 audited s _ _ _ _ _ (rounds before) = tt
@@ -165,7 +165,7 @@ module _ (s : ScenarioData) where
   first_canned : CannedSettled s (first_world s)
   first_canned i card answers there canned = subst IsSettled (sym (get_or-map_const s.cards i new_card)) refl
 
-  canned_settled : (place : Place) (n : ℕ) (cs : List Bool) (ls : List Line) (w : World) → Reached s place n cs ls w → CannedSettled s w
+  canned_settled : (place : RunPlace) (n : ℕ) (cs : List Bool) (ls : List Line) (w : World) → Reached s place n cs ls w → CannedSettled s w
   canned_settled = reached_keeps s (CannedSettled s) first_canned event_canned
 
 pub run_settled : (s : ScenarioData) (n : ℕ) (cs : List Bool) (ls : List Line) (w : World) → Reached s Finished n cs ls w → AreSettled s w

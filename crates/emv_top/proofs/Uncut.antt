@@ -1,12 +1,12 @@
 -- A card whose power no tear cuts has no open decision behind an exchange, and has lost its power no more often.
 use Rattle.std.proofs.Common.{◌≡◌, ℕ, ◌+◌, Bool, true, false, List, [], ◌∷◌, ◌++◌, slice_get, Option, Some, None, option_map, refl, ap, ◌∙◌}
-use Rattle.capture_store.specs.StoreRow.{is_cut, opened_to_add}
+use Rattle.capture_store.specs.StoreRow.{is_next_cut, opened_to_add}
 use Rattle.card_app.specs.Answering.{card_answer}
 use Rattle.card_pages.specs.Cuts.{Cut, cut_of, behind_one}
 use Rattle.card_pages.specs.Pages.{found_of}
 use Rattle.card_pages.specs.Replies.{CardAnswer}
 use Rattle.card_state.specs.Decisions.{Decided}
-use Rattle.emv_ports.specs.Cut.{is_named}
+use Rattle.emv_ports.specs.Cut.{names_commit}
 use Rattle.emv_ports.specs.declared.tear.Tear.{Tear}
 use Rattle.kernel.specs.Dialogue.{dialogue}
 use Rattle.kernel.specs.Ended.{EndData}
@@ -14,12 +14,12 @@ use Rattle.kernel.specs.Reply.{Reply, CardSaid, CardGone, Deed, ToCard, ToHost, 
 use Rattle.report_text.specs.declared.line.Line.{Line}
 use Rattle.txn_replay.specs.Changes.{powered, exchanged, told_once}
 use Rattle.txn_replay.specs.Lines.{answer_lines, gone_lines}
-use Rattle.txn_replay.specs.Part.{Part, settled_by, cut_ends, answered, canned_by, asked_by, asked, begun, begun_by, begun_with, piece_by, piece}
-use Rattle.txn_replay.specs.Payment.{Payment, deal_for, end_at}
+use Rattle.txn_replay.specs.Part.{Part, ended_by_record, cut_ends, lane_answered_by, canned_by, asked_of_card, asked, purchase_begun, begun_by, begun_with, piece_by, piece}
+use Rattle.txn_replay.specs.Payment.{Payment, outset_for, end_at}
 use Rattle.txn_replay.specs.Storing.{part_with, copied, copy_lines, dropped_by, delivers_first, lane_piece}
 use Rattle.txn_replay.specs.World.{Holder, CardRow, LaneRow, with_sent}
-use Rattle.txn_replay.proofs.Moves.{this_one}
-use Rattle.txn_replay.proofs.Ways.{lane_ways}
+use Rattle.txn_replay.proofs.ExchangeLaws.LaneMoves.{this_one}
+use Rattle.txn_replay.proofs.ExchangeLaws.SixWays.{lane_ways}
 
 abbrev pub IsSettled : CardRow → Type 0
 IsSettled row = row.pending ≡ None
@@ -34,11 +34,11 @@ none_cut made (d ∷ ds) = ap (λ (o : Option Cut). option_map (behind_one d) o)
 
 module _ (p : Payment) (part : Part) (spared : p.card.canned ≡ None → p.planned.tear ≡ None) (before : IsSettled part.card) where
   settled_card : (replies : List Reply) (lane : LaneRow) (card : CardRow) (messages : List (List ℕ)) (lines : List Line) (e : Option EndData)
-      → Spares part.card card → Spares part.card (settled_by p replies (record { lane = lane; card = card; messages = messages }) lines e).part.card
+      → Spares part.card card → Spares part.card (ended_by_record p replies (record { lane = lane; card = card; messages = messages }) lines e).part.card
   settled_card replies lane card messages lines None here = here
   settled_card replies lane card messages lines (Some end) here = here
 
-  answer_card : (replies : List Reply) (command : List ℕ) (said : CardAnswer) (cut : Option Cut) → cut ≡ None → Spares part.card (answered p replies command part said cut).part.card
+  answer_card : (replies : List Reply) (command : List ℕ) (said : CardAnswer) (cut : Option Cut) → cut ≡ None → Spares part.card (lane_answered_by p replies command part said cut).part.card
   answer_card replies command said None none =
       settled_card (replies ++ CardSaid said.answer part.lane.log ∷ []) part.lane (exchanged p.card.image part.card command said) part.messages
       (answer_lines p.lane command said.answer) (end_at p (replies ++ CardSaid said.answer part.lane.log ∷ [])) (before, refl)
@@ -55,7 +55,7 @@ module _ (p : Payment) (part : Part) (spared : p.card.canned ≡ None → p.plan
       (end_at p (replies ++ CardSaid answer part.lane.log ∷ [])) (before, refl)
   tell_card replies command None = gone_card (replies ++ CardGone ∷ []) (gone_lines p.lane command) (end_at p (replies ++ CardGone ∷ []))
 
-  kind_card : (replies : List Reply) (command : List ℕ) (o : Option (List (List ℕ))) → p.card.canned ≡ o → Spares part.card (asked_by p replies command part o).part.card
+  kind_card : (replies : List Reply) (command : List ℕ) (o : Option (List (List ℕ))) → p.card.canned ≡ o → Spares part.card (asked_of_card p replies command part o).part.card
   kind_card replies command None is =
       answer_card replies command (card_answer p.card.image part.card.kept part.card.session command)
       (cut_of p.planned.tear part.card.made (card_answer p.card.image part.card.kept part.card.session command).new)
@@ -75,7 +75,7 @@ module _ (p : Payment) (part : Part) (spared : p.card.canned ≡ None → p.plan
       (powered part.card (found_of part.card.kept part.card.pending choice) (Some (this_one p part))) part.messages _ (end_at p []) (refl, refl)
 
   kind_begins : (choice : Bool) (o : Option (List (List ℕ))) → p.card.canned ≡ o → Spares part.card (begun_with p part choice o).part.card
-  kind_begins choice None is = begin_card choice (is_named p.planned.tear 0) (ap (λ (tear : Option Tear). is_named tear 0) (spared is))
+  kind_begins choice None is = begin_card choice (names_commit p.planned.tear 0) (ap (λ (tear : Option Tear). names_commit tear 0) (spared is))
   kind_begins choice (Some answers) is =
       settled_card [] (record part.lane { began = None })
       (powered part.card (found_of part.card.kept part.card.pending false) (Some (this_one p part))) part.messages _ (end_at p []) (refl, refl)
@@ -83,13 +83,13 @@ module _ (p : Payment) (part : Part) (spared : p.card.canned ≡ None → p.plan
   pub piece_card : (choice : Bool) → Spares part.card (piece p part choice).part.card
   piece_card choice = by_lane part.lane.running
     where
-      begins : (o : Option Holder) → Spares part.card (begun p part choice o).part.card
+      begins : (o : Option Holder) → Spares part.card (purchase_begun p part choice o).part.card
       begins None = kind_begins choice p.card.canned refl
       begins (Some h) = (before, refl)
 
       by_lane : (o : Option (List Reply)) → Spares part.card (piece_by p part choice o).part.card
       by_lane None = begins part.card.holder
-      by_lane (Some replies) = ask_card replies (dialogue (deal_for p) replies).deed
+      by_lane (Some replies) = ask_card replies (dialogue (outset_for p) replies).deed
 
 -- what comes before a purchase leaves its card
 module _ (p : Payment) (part : Part) (spared : p.card.canned ≡ None → p.planned.tear ≡ None) (before : IsSettled part.card) where
@@ -106,7 +106,7 @@ module _ (p : Payment) (part : Part) (spared : p.card.canned ≡ None → p.plan
     where
       delivered : (list : List (List ℕ)) → Spares part.card (delivers_first p part list).part.card
       delivered [] = (before, refl)
-      delivered (message ∷ others) = by (is_cut p.planned.terminal_tear part.lane.store)
+      delivered (message ∷ others) = by (is_next_cut p.planned.terminal_tear part.lane.store)
         where
           by : (cut : Bool) → Spares part.card (dropped_by p (copied p message part) (copy_lines p message part.messages p.copies) cut).part.card
           by true = (before, refl)

@@ -3,7 +3,7 @@ use Rattle.std.proofs.Common.{◌≡◌, ℕ, Bool, true, false, List, [], ◌�
 use Rattle.std.specs.Prelude.{is_some, option_and_then, option_map}
 use Rattle.std.specs.List.{AllByRecursion}
 use Rattle.emv_dict.specs.declared.ending.Ending.{Ending}
-use Rattle.emv_ports.specs.Cut.{is_named}
+use Rattle.emv_ports.specs.Cut.{names_commit}
 use Rattle.emv_ports.specs.declared.tear.Tear.{Tear}
 use Rattle.emv_top.proofs.Pasts.{lane_pasts}
 use Rattle.kernel.specs.Ended.{EndData}
@@ -67,7 +67,7 @@ none_ended (Some card) ending unread = cc
 none_ended None None unread = refl
 none_ended None (Some ending) unread = cc
 
-pub not_named : {A : Type 0} (tear : Option Tear) (n : ℕ) → tear ≡ None → is_named tear n ≡ true → A
+pub not_named : {A : Type 0} (tear : Option Tear) (n : ℕ) → tear ≡ None → names_commit tear n ≡ true → A
 not_named None n none named = cc
 not_named (Some tear) n none named = cc
 

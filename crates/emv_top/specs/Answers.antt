@@ -2,19 +2,18 @@
 use Rattle.std.specs.Prelude.{◌≡◌, ◌⊎◌, ℕ, List, count_by, length, slice_get, Option, Some, None, Ok, Err}
 use Rattle.std.specs.List.{All}
 use Rattle.std.specs.Io.KnownBytes.{Appends}
-use Rattle.emv_ports.specs.Causes.{Rose}
 use Rattle.emv_ports.specs.Growth.{AppendsFront}
 use Rattle.emv_ports.specs.Memory.{Memory, IsBlank}
 use Rattle.emv_ports.specs.Reading.{ReadsUpTo}
-use Rattle.emv_top.specs.Courses.{Ends, Replays, Reads, Stopped, all_lines, shown_lines}
+use Rattle.emv_top.specs.RunsSoFar.{Ends, Replays, ReadsLane, RunWasStopped, all_lines, shown_lines}
 use Rattle.emv_top.specs.Decided.{DecidedRun}
 use Rattle.emv_top.specs.Input.{IsInput}
-use Rattle.emv_top.specs.Texts.{text_of}
+use Rattle.emv_top.specs.Texts.{text_of_lines}
 use Rattle.emv_top.specs.Words.{usage_line}
 use Rattle.emv_top.specs.declared.status.Status.{Status}
 use Rattle.emv_top.specs.declared.status.Status.TheVariants.{Done, Refused, Usage, ReadFault, WriteFault, OutOfMemory}
-use Rattle.emv_top.specs.declared.words.Order.{Order}
-use Rattle.emv_top.specs.declared.words.Order.TheVariants.{Read, Replay}
+use Rattle.emv_top.specs.declared.words.Task.{Task}
+use Rattle.emv_top.specs.declared.words.Task.TheVariants.{Read, Replay}
 use Rattle.kernel.specs.Tally.{Counts}
 use Rattle.report_text.specs.declared.line.Line.{Line}
 use Rattle.scenario.specs.Cards.{CardData}
@@ -26,7 +25,7 @@ use Rattle.txn_replay.specs.Counting.{counts, lost_count}
 use Rattle.txn_replay.specs.Laws.{IsFair, is_torn}
 use Rattle.txn_replay.specs.Reading.{ReadRun, to_read}
 use Rattle.txn_replay.specs.Stored.{IsEmptied}
-use Rattle.txn_replay.specs.Told.{HasLosses}
+use Rattle.txn_replay.specs.ToldByLines.{HasLosses}
 use Rattle.txn_replay.specs.World.{World, card_at, lane_at}
 use Rattle.txn_replay.specs.Seen.{BankStands}
 
@@ -59,7 +58,7 @@ pub record Completes (runs : List Line → World → Type 0) (holds : World → 
   pub world : World
   pub run : runs lines world
   pub stands : holds world
-  pub written : Appends old new (text_of lines)
+  pub written : Appends old new (text_of_lines lines)
 
 -- a run that was cut: its lines tell how often each card lost its power, and each terminal a purchase
 abbrev pub ToldReplays : ScenarioData → Ends
@@ -73,51 +72,51 @@ pub record CalmReading (s : ScenarioData) (lines : List Line) (w : World) : Type
   pub kept : (l : ℕ) → lost_count (lane_at w l).ended ≡ 0
   pub emptied : (l : ℕ) → IsEmptied (lane_at w l).store
 
--- the runs that an order asks for, and the scenario whose cards, lanes and host they are of: in a whole run each purchase
+-- the runs that a task asks for, and the scenario whose cards, lanes and host they are of: in a whole run each purchase
 -- with a well-formed card is decided, and a card is read without its purchase's tear
-abbrev pub runs_of : Order → ScenarioData → List Line → World → Type 0
+abbrev pub runs_of : Task → ScenarioData → List Line → World → Type 0
 runs_of Read s = CalmReading s
 runs_of Replay s = DecidedRun s
 
-abbrev pub played : Order → ScenarioData → ScenarioData
+abbrev pub played : Task → ScenarioData → ScenarioData
 played Read s = to_read s
 played Replay s = s
 
-abbrev pub ends_of : Order → ScenarioData → Ends
-ends_of Read s = Reads (to_read s)
+abbrev pub ends_of : Task → ScenarioData → Ends
+ends_of Read s = ReadsLane (to_read s)
 ends_of Replay s = ToldReplays s
 
-abbrev pub shown_of : Order → List Line → List Line
+abbrev pub shown_of : Task → List Line → List Line
 shown_of Read = shown_lines
 shown_of Replay = all_lines
 
-abbrev pub IsWhole : Order → ScenarioData → Option (List ℕ) → Option (List ℕ) → List Memory → Counts → Type 0
-IsWhole order s old new bank tally = Completes (runs_of order s) (λ w. Leaves (played order s) bank tally w × AreSettled s w) old new
+abbrev pub IsRunWhole : Task → ScenarioData → Option (List ℕ) → Option (List ℕ) → List Memory → Counts → Type 0
+IsRunWhole task s old new bank tally = Completes (runs_of task s) (λ w. Leaves (played task s) bank tally w × AreSettled s w) old new
 
-abbrev pub IsCut : Order → ScenarioData → Option (List ℕ) → Option (List ℕ) → List Memory → Counts → Type 0
-IsCut order s old new bank tally = Stopped (played order s) (shown_of order) (ends_of order s) (Leaves (played order s) bank tally) old new
+abbrev pub IsRunCut : Task → ScenarioData → Option (List ℕ) → Option (List ℕ) → List Memory → Counts → Type 0
+IsRunCut task s old new bank tally = RunWasStopped (played task s) (shown_of task) (ends_of task s) (Leaves (played task s) bank tally) old new
 
 -- nothing was written, and nothing begun
 abbrev pub IsUnmade : Option (List ℕ) → Option (List ℕ) → List Memory → Counts → Type 0
 IsUnmade old new bank tally = (new ≡ old) × Unbegun bank tally
 
 -- what becomes of a scenario, by the status that tells it
-abbrev pub Plays : Order → ScenarioData → Option (List ℕ) → Option (List ℕ) → List Memory → Counts → Status → Type 0
-Plays order s old new bank tally Done = IsWhole order s old new bank tally
-Plays order s old new bank tally Refused = ⊥
-Plays order s old new bank tally Usage = ⊥
-Plays order s old new bank tally ReadFault = ⊥
-Plays order s old new bank tally WriteFault = IsCut order s old new bank tally
-Plays order s old new bank tally OutOfMemory = IsUnmade old new bank tally ⊎ IsCut order s old new bank tally
+abbrev pub Plays : Task → ScenarioData → Option (List ℕ) → Option (List ℕ) → List Memory → Counts → Status → Type 0
+Plays task s old new bank tally Done = IsRunWhole task s old new bank tally
+Plays task s old new bank tally Refused = ⊥
+Plays task s old new bank tally Usage = ⊥
+Plays task s old new bank tally ReadFault = ⊥
+Plays task s old new bank tally WriteFault = IsRunCut task s old new bank tally
+Plays task s old new bank tally OutOfMemory = IsUnmade old new bank tally ⊎ IsRunCut task s old new bank tally
 
 -- the bytes are a scenario's
-abbrev pub IsAccepted : Order → List ℕ → (ScenarioData → Type 0) → Type 0
-IsAccepted order bytes becomes = (s : ScenarioData) × IsInput order bytes (Ok s) × becomes s
+abbrev pub IsScenarioRead : Task → List ℕ → (ScenarioData → Type 0) → Type 0
+IsScenarioRead task bytes becomes = (s : ScenarioData) × IsInput task bytes (Ok s) × becomes s
 
 -- or they have a fault, with this line
-pub record IsRefused (order : Order) (bytes : List ℕ) (line : List ℕ) : Type 0 where
+pub record IsInputRefused (task : Task) (bytes : List ℕ) (line : List ℕ) : Type 0 where
   pub fault : ScenarioFault
-  pub input : IsInput order bytes (Err fault)
+  pub input : IsInput task bytes (Err fault)
   pub told : refused_line fault ≡ Some line
 
 -- a fault, whose line is written, or a front of it; want of memory has no line
@@ -130,72 +129,55 @@ Refuses fault old new bank tally WriteFault = (line : List ℕ) × (refused_line
 Refuses fault old new bank tally OutOfMemory = IsUnmade old new bank tally
 
 -- a run of the scenario was cut, or the line of the fault
-abbrev pub IsCutIn : Order → List ℕ → Option (List ℕ) → Option (List ℕ) → List Memory → Counts → Type 0
-IsCutIn order bytes old new bank tally =
-    IsAccepted order bytes (λ s. IsCut order s old new bank tally)
-    ⊎ ((line : List ℕ) × IsRefused order bytes line × AppendsFront old new line × Unbegun bank tally)
+abbrev pub IsOutputCut : Task → List ℕ → Option (List ℕ) → Option (List ℕ) → List Memory → Counts → Type 0
+IsOutputCut task bytes old new bank tally =
+    IsScenarioRead task bytes (λ s. IsRunCut task s old new bank tally)
+    ⊎ ((line : List ℕ) × IsInputRefused task bytes line × AppendsFront old new line × Unbegun bank tally)
 
 -- what becomes of the bytes
-abbrev pub Answers : Order → List ℕ → Option (List ℕ) → Option (List ℕ) → List Memory → Counts → Status → Type 0
-Answers order bytes old new bank tally Done = IsAccepted order bytes (λ s. IsWhole order s old new bank tally)
-Answers order bytes old new bank tally Refused = (line : List ℕ) × IsRefused order bytes line × Appends old new line × Unbegun bank tally
-Answers order bytes old new bank tally Usage = ⊥
-Answers order bytes old new bank tally ReadFault = ⊥
-Answers order bytes old new bank tally WriteFault = IsCutIn order bytes old new bank tally
-Answers order bytes old new bank tally OutOfMemory =
-    IsUnmade old new bank tally ⊎ IsAccepted order bytes (λ s. IsCut order s old new bank tally)
+abbrev pub Answers : Task → List ℕ → Option (List ℕ) → Option (List ℕ) → List Memory → Counts → Status → Type 0
+Answers task bytes old new bank tally Done = IsScenarioRead task bytes (λ s. IsRunWhole task s old new bank tally)
+Answers task bytes old new bank tally Refused = (line : List ℕ) × IsInputRefused task bytes line × Appends old new line × Unbegun bank tally
+Answers task bytes old new bank tally Usage = ⊥
+Answers task bytes old new bank tally ReadFault = ⊥
+Answers task bytes old new bank tally WriteFault = IsOutputCut task bytes old new bank tally
+Answers task bytes old new bank tally OutOfMemory =
+    IsUnmade old new bank tally ⊎ IsScenarioRead task bytes (λ s. IsRunCut task s old new bank tally)
 
 -- want of memory: nothing was begun, or a run was cut
-abbrev pub IsStarved : Order → Option (List ℕ) → Option (List ℕ) → Option (List ℕ) → Option (List ℕ) → List Memory → Counts → Type 0
-IsStarved order left after old new bank tally =
+abbrev pub IsStarved : Task → Option (List ℕ) → Option (List ℕ) → Option (List ℕ) → Option (List ℕ) → List Memory → Counts → Type 0
+IsStarved task left after old new bank tally =
     IsUnmade old new bank tally
-    ⊎ ((bytes : List ℕ) × ReadsUpTo 4194305 left after bytes × IsAccepted order bytes (λ s. IsCut order s old new bank tally))
+    ⊎ ((bytes : List ℕ) × ReadsUpTo 4194305 left after bytes × IsScenarioRead task bytes (λ s. IsRunCut task s old new bank tally))
 
--- what becomes of a source
-abbrev pub AnswersRead : Order → Option (List ℕ) → Option (List ℕ) → Option (List ℕ) → Option (List ℕ) → List Memory → Counts → Status → Type 0
-AnswersRead order left after old new bank tally Done = (bytes : List ℕ) × ReadsUpTo 4194305 left after bytes × Answers order bytes old new bank tally Done
-AnswersRead order left after old new bank tally Refused = (bytes : List ℕ) × ReadsUpTo 4194305 left after bytes × Answers order bytes old new bank tally Refused
-AnswersRead order left after old new bank tally Usage = ⊥
-AnswersRead order left after old new bank tally ReadFault = IsUnmade old new bank tally
-AnswersRead order left after old new bank tally WriteFault =
-    (bytes : List ℕ) × ReadsUpTo 4194305 left after bytes × IsCutIn order bytes old new bank tally
-AnswersRead order left after old new bank tally OutOfMemory = IsStarved order left after old new bank tally
+-- what becomes of the source's bytes
+abbrev pub AnswersRead : Task → Option (List ℕ) → Option (List ℕ) → Option (List ℕ) → Option (List ℕ) → List Memory → Counts → Status → Type 0
+-- 0: they are a scenario's, and of one run of it the sink got the text of its lines, the pages stand for its cards' decisions
+-- and its stores' lists, and the tally is its count. No counter serves two purchases, power-ups find prefixes, and no
+-- transaction is booked twice. In a whole run each purchase without a tear whose card has applications and was well-formed at
+-- its power-up is approved or declined, the lines tell what cards and terminals lost, of a lane that keeps its captures durably
+-- those that weren't lost are sent, and its store is empty, and a lane that shares no card and no account with others runs as if
+-- it were alone. In a reading nothing is lost, and each store is empty.
+AnswersRead task left after old new bank tally Done = (bytes : List ℕ) × ReadsUpTo 4194305 left after bytes × Answers task bytes old new bank tally Done
+-- 1: they are refused, and the sink got the line of that very fault; nothing was begun
+AnswersRead task left after old new bank tally Refused = (bytes : List ℕ) × ReadsUpTo 4194305 left after bytes × Answers task bytes old new bank tally Refused
+-- 2: only words that aren't in the grammar
+AnswersRead task left after old new bank tally Usage = ⊥
+-- 3: the source failed, and nothing was written or begun
+AnswersRead task left after old new bank tally ReadFault = IsUnmade old new bank tally
+-- 4: the sink failed, and got a front of a refusal's line, or of the lines of a run up to some event, which lacks at most those
+-- of that event and those behind all events
+AnswersRead task left after old new bank tally WriteFault =
+    (bytes : List ℕ) × ReadsUpTo 4194305 left after bytes × IsOutputCut task bytes old new bank tally
+-- 5: there was no memory: before anything began, or in a run, of whose lines a front was written as for 4
+AnswersRead task left after old new bank tally OutOfMemory = IsStarved task left after old new bank tally
 
 -- the usage line, or a front of it
 abbrev pub TellsUsage : Option (List ℕ) → Option (List ℕ) → List Memory → Counts → Status → Type 0
 TellsUsage old new bank tally Done = ⊥
 TellsUsage old new bank tally Refused = ⊥
+-- 2: nothing was begun
 TellsUsage old new bank tally Usage = Appends old new usage_line × Unbegun bank tally
 TellsUsage old new bank tally ReadFault = ⊥
 TellsUsage old new bank tally WriteFault = AppendsFront old new usage_line × Unbegun bank tally
 TellsUsage old new bank tally OutOfMemory = ⊥
-
--- what becomes of words that give an order, or none
-abbrev pub AnswersWords : Option Order → Option (List ℕ) → Option (List ℕ) → Option (List ℕ) → Option (List ℕ) → List Memory → Counts → Status → Type 0
-AnswersWords None left after old new bank tally status = TellsUsage old new bank tally status
-AnswersWords (Some order) left after old new bank tally status = AnswersRead order left after old new bank tally status
-
--- the sink failed: of the usage line for words that give no order, else of a fault's line or a run's lines, a front
--- was written
-abbrev pub IsCutShort : Option Order → Option (List ℕ) → Option (List ℕ) → Option (List ℕ) → Option (List ℕ) → List Memory → Counts → Type 0
-IsCutShort None left after old new bank tally = AppendsFront old new usage_line × Unbegun bank tally
-IsCutShort (Some order) left after old new bank tally =
-    (bytes : List ℕ) × ReadsUpTo 4194305 left after bytes × IsCutIn order bytes old new bank tally
-
--- the count of the source's faults by the status
-abbrev pub SourceCount : ℕ → ℕ → Status → Type 0
-SourceCount before now Done = now ≡ before
-SourceCount before now Refused = now ≡ before
-SourceCount before now Usage = now ≡ before
-SourceCount before now ReadFault = Rose before now
-SourceCount before now WriteFault = now ≡ before
-SourceCount before now OutOfMemory = now ≡ before
-
--- the count of the sink's faults by the status
-abbrev pub SinkCount : ℕ → ℕ → Status → Type 0
-SinkCount before now Done = now ≡ before
-SinkCount before now Refused = now ≡ before
-SinkCount before now Usage = now ≡ before
-SinkCount before now ReadFault = now ≡ before
-SinkCount before now WriteFault = Rose before now
-SinkCount before now OutOfMemory = now ≡ before

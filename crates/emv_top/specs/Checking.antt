@@ -8,7 +8,7 @@ use Rattle.emv_top.specs.declared.status.Status.TheVariants.{Done, Refused, Usag
 use Rattle.report_text.specs.Pieces.{newline}
 use Rattle.scenario_fields.specs.Line.{refused_line}
 use Rattle.scenario_fields.specs.declared.fault.ScenarioFault.{ScenarioFault}
-use Rattle.trace_check.specs.Document.{IsReading, TraceData}
+use Rattle.trace_check.specs.Document.{ReadsTrace, TraceData}
 use Rattle.trace_check.specs.Verdicts.{verdict_of}
 use Rattle.trace_check.specs.declared.compare.Verdict.{Verdict}
 use Rattle.trace_check.specs.declared.compare.Verdict.TheVariants.{Same, Differs}
@@ -21,13 +21,13 @@ verdict_line (Differs at) = codes "check differs " ++ decimal at ++ newline
 -- the bytes are a trace's, and this became of the line of the verdict on it
 pub record HasVerdict (bytes : List ℕ) (written : List ℕ → Type 0) : Type 0 where
   pub trace : TraceData
-  pub reading : IsReading bytes (Ok trace)
+  pub reading : ReadsTrace bytes (Ok trace)
   pub told : written (verdict_line (verdict_of trace))
 
 -- or they have a fault, and this became of its line
 pub record HasFault (bytes : List ℕ) (written : List ℕ → Type 0) : Type 0 where
   pub fault : ScenarioFault
-  pub reading : IsReading bytes (Err fault)
+  pub reading : ReadsTrace bytes (Err fault)
   pub line : List ℕ
   pub named : refused_line fault ≡ Some line
   pub told : written line
@@ -54,11 +54,15 @@ Checks bytes old new ReadFault = ⊥
 Checks bytes old new WriteFault = TellsFront bytes old new
 Checks bytes old new OutOfMemory = new ≡ old
 
--- what becomes of a source
+-- what becomes of the source's bytes
 abbrev pub ChecksRead : Option (List ℕ) → Option (List ℕ) → Option (List ℕ) → Option (List ℕ) → Status → Type 0
+-- 0: they are a trace's, and the sink got the line of the verdict on it
 ChecksRead left after old new Done = (bytes : List ℕ) × ReadsUpTo 4194305 left after bytes × HasVerdict bytes (Appends old new)
+-- 1: they are refused, and the sink got the line of that very fault
 ChecksRead left after old new Refused = (bytes : List ℕ) × ReadsUpTo 4194305 left after bytes × HasFault bytes (Appends old new)
 ChecksRead left after old new Usage = ⊥
+-- 3, 5: the source failed, or there was no memory, and nothing was written
 ChecksRead left after old new ReadFault = new ≡ old
+-- 4: the sink, which failed, got a front of the one line or the other
 ChecksRead left after old new WriteFault = (bytes : List ℕ) × ReadsUpTo 4194305 left after bytes × TellsFront bytes old new
 ChecksRead left after old new OutOfMemory = new ≡ old

@@ -2,18 +2,18 @@
 -- tear, neither of the card nor of the terminal; and what else is known of a whole run.
 use Rattle.std.specs.Prelude.{◌≡◌, ℕ, Bool, true, List, slice_get, Option, Some, None}
 use Rattle.card_state.specs.Decisions.{Decided}
-use Rattle.completeness.specs.Told.{IsDecided}
-use Rattle.completeness.specs.WellFormed.{WellFormed}
+use Rattle.dialogue_laws.specs.UncutPurchase.{IsDecided}
+use Rattle.dialogue_laws.specs.WellFormed.{WellFormed}
 use Rattle.kernel.specs.Ended.{EndData}
 use Rattle.report_text.specs.declared.line.Line.{Line}
 use Rattle.scenario.specs.Plan.{ScenarioData, IsScenario}
 use Rattle.txn_replay.specs.Captured.{AreSent, AreLostAsTold}
-use Rattle.txn_replay.specs.Payment.{Payment, payment_in, dialect_of, durable_of, deal_for}
+use Rattle.txn_replay.specs.Payment.{Payment, payment_in, dialect_of, durable_of, outset_for}
 use Rattle.txn_replay.specs.Respelled.{AreRespelled, in_dialects}
-use Rattle.txn_replay.specs.Run.{Place, Reached, Run}
+use Rattle.txn_replay.specs.Run.{RunPlace, Reached, Run}
 use Rattle.txn_replay.specs.StandAlone.{IsApart, RunsAlone}
 use Rattle.txn_replay.specs.Stored.{IsEmptied}
-use Rattle.txn_replay.specs.Told.{HasLosses}
+use Rattle.txn_replay.specs.ToldByLines.{HasLosses}
 use Rattle.txn_replay.specs.World.{Past, World, lane_at}
 
 -- its end record says so
@@ -27,7 +27,7 @@ EndsDecided (Some end) = IsDecided end.ending
 abbrev pub IsDecidedAt : ScenarioData → ℕ → ℕ → Past → Type 0
 IsDecidedAt s l number past =
     (p : Payment) → payment_in s l number ≡ Some p → p.planned.tear ≡ None → p.planned.terminal_tear ≡ None → p.card.canned ≡ None
-    → (found : List Decided) × (past.began ≡ Some found) × (WellFormed p.card.image (deal_for p) found → EndsDecided past.end)
+    → (found : List Decided) × (past.began ≡ Some found) × (WellFormed p.card.image (outset_for p) found → EndsDecided past.end)
 
 abbrev pub AreDecided : ScenarioData → World → Type 0
 AreDecided s w = (l number : ℕ) (past : Past) → slice_get (lane_at w l).ended number ≡ Some past → IsDecidedAt s l number past
@@ -35,7 +35,7 @@ AreDecided s w = (l number : ℕ) (past : Past) → slice_get (lane_at w l).ende
 -- of every world that a run comes to
 abbrev pub RunsAreDecided : Type 0
 RunsAreDecided =
-    (s : ScenarioData) (place : Place) (n : ℕ) (choices : List Bool) (lines : List Line) (w : World)
+    (s : ScenarioData) (place : RunPlace) (n : ℕ) (choices : List Bool) (lines : List Line) (w : World)
     → Reached s place n choices lines w → IsScenario s → AreDecided s w
 
 -- a whole run with these lanes in other dialects, which leads to the same world
@@ -55,4 +55,4 @@ pub record DecidedRun (s : ScenarioData) (lines : List Line) (w : World) : Type 
   pub dialects : (iso : ℕ → Bool) → RunInDialects s iso lines w
   pub captures : (l : ℕ) → durable_of s l ≡ true → AreSent s lines w l
   pub emptied : (l : ℕ) → durable_of s l ≡ true → IsEmptied (lane_at w l).store
-  pub alone : (pans : List ℕ → Bool) (l : ℕ) → IsApart pans s l w → RunsAlone pans s l lines w
+  pub alone : (pans : List ℕ → Bool) (l : ℕ) → IsApart pans s l w → RunsAlone pans s l lines w run

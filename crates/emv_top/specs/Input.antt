@@ -1,9 +1,9 @@
--- What the bytes that were read are for an order: a scenario, or why they are refused.
+-- What the bytes that were read are for a task: a scenario, or why they are refused.
 use Rattle.std.specs.Prelude.{◌≡◌, ℕ, List, [], ◌∷◌, codes, Result, Ok, Err}
-use Rattle.emv_top.specs.declared.words.Order.{Order}
-use Rattle.emv_top.specs.declared.words.Order.TheVariants.{Read, Replay}
+use Rattle.emv_top.specs.declared.words.Task.{Task}
+use Rattle.emv_top.specs.declared.words.Task.TheVariants.{Read, Replay}
 use Rattle.scenario.specs.Plan.{ScenarioData}
-use Rattle.scenario.specs.Scenario.{IsReading}
+use Rattle.scenario.specs.Scenario.{ReadsScenario}
 use Rattle.scenario_fields.specs.Fault.{◌>>=◌}
 use Rattle.scenario_fields.specs.declared.fault.ScenarioFault.{ScenarioFault}
 use Rattle.scenario_fields.specs.declared.fault.ScenarioFault.TheVariants.{UnknownName}
@@ -19,12 +19,12 @@ abbrev pub with_purchase : ScenarioData → List Planned → Result ScenarioData
 with_purchase s [] = Err (UnknownName (codes "lane[0].purchase[0]"))
 with_purchase s (planned ∷ others) = Ok s
 
-abbrev pub served : Order → ScenarioData → Result ScenarioData ScenarioFault
+abbrev pub served : Task → ScenarioData → Result ScenarioData ScenarioFault
 served Read s = with_purchase s (first_purchases s.lanes)
 served Replay s = Ok s
 
--- the scenario of the bytes, or their fault, and behind it whether the order can be served
-pub record IsInput (order : Order) (bytes : List ℕ) (outcome : Result ScenarioData ScenarioFault) : Type 0 where
+-- the scenario of the bytes, or their fault, and behind it whether the task can be served
+pub record IsInput (task : Task) (bytes : List ℕ) (outcome : Result ScenarioData ScenarioFault) : Type 0 where
   pub read : Result ScenarioData ScenarioFault
-  pub reading : IsReading bytes read
-  pub serves : outcome ≡ (read >>= served order)
+  pub reading : ReadsScenario bytes read
+  pub serves : outcome ≡ (read >>= served task)

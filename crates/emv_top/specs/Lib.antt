@@ -6,7 +6,8 @@ pub mod Short
 pub mod Input
 pub mod Checking
 pub mod Traces
-pub mod Courses
+pub mod RunsSoFar
 pub mod Decided
 pub mod Answers
 pub mod Generating
+pub mod Subcommands

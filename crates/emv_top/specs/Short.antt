@@ -8,5 +8,5 @@ use Rattle.object_lists.specs.CardRead.{ReadCard}
 abbrev pub AllShort : Entries → Type 0
 AllShort entries = AllByRecursion (λ entry. length entry.1 ≤ 256) entries
 
-abbrev pub IsShort : ReadCard → Type 0
-IsShort card = AllShort card.entries
+abbrev pub HasShortObjects : ReadCard → Type 0
+HasShortObjects card = AllShort card.entries

@@ -1,56 +1,57 @@
 -- The words of the command line.
-use Rattle.std.specs.Prelude.{ℕ, nat_le, ◌==◌, Bool, false, not, ◌&&◌, List, [], ◌∷◌, ◌++◌, Option, Some, None, option_and_then, codes, slice_index, if◌then◌else◌}
+use Rattle.std.specs.Prelude.{◌≤◌, ℕ, ⊤, nat_le, ◌==◌, Bool, true, false, not, ◌&&◌, List, [], ◌∷◌, ◌++◌, Option, Some, None, option_map, codes, slice_index, if◌then◌else◌}
 use Rattle.std.specs.Str.{all_ascii_digits, bytes_eq}
 use Rattle.std.specs.Str.Parse.{digits_value}
-use Rattle.emv_top.specs.declared.words.Order.{Order}
-use Rattle.emv_top.specs.declared.words.Order.TheVariants.{Read, Replay}
+use Rattle.emv_top.specs.declared.words.Task.TheVariants.{Read, Replay}
+use Rattle.emv_top.specs.declared.words.Subcommand.{Subcommand}
+use Rattle.emv_top.specs.declared.words.Subcommand.TheVariants.{Play, Generate, Check}
 
 -- without the first word `--`
 abbrev pub without_dashes : List (List ℕ) → List (List ℕ)
 without_dashes [] = []
 without_dashes (word ∷ words) = (if bytes_eq word (codes "--") then words else word ∷ without_dashes words)
 
--- a word that stands alone
-abbrev pub sole : List (List ℕ) → Option (List ℕ)
-sole [] = None
-sole (word ∷ []) = Some word
-sole (word ∷ other ∷ words) = None
-
-unfoldable pub sole_word : List (List ℕ) → Option (List ℕ)
-sole_word words = sole (without_dashes words)
-
--- a word that names an order
-abbrev pub order_named : List ℕ → Option Order
-order_named word = if bytes_eq word (codes "read") then Some Read else if bytes_eq word (codes "replay") then Some Replay else None
-
--- one word alone that names an order
-unfoldable pub order_of : List (List ℕ) → Option Order
-order_of words = option_and_then order_named (sole_word words)
-
-abbrev pub names_check : Option (List ℕ) → Bool
-names_check None = false
-names_check (Some word) = bytes_eq word (codes "check")
-
--- the one word `check`
-unfoldable pub asks_check : List (List ℕ) → Bool
-asks_check words = names_check (sole_word words)
+-- what a word alone asks for
+abbrev pub lone_subcommand : List ℕ → Option Subcommand
+lone_subcommand word =
+    if bytes_eq word (codes "read") then Some (Play Read)
+    else if bytes_eq word (codes "replay") then Some (Play Replay) else if bytes_eq word (codes "check") then Some Check else None
 
 -- a number from 1 to 10,000 in decimal digits, of which the first is no 0
 abbrev pub is_count : List ℕ → Bool
 is_count word =
     all_ascii_digits word && not (slice_index word 0 == 48) && nat_le 1 (digits_value 10 word) && nat_le (digits_value 10 word) 10000
 
--- `generate` and a count
-abbrev pub count_named : List (List ℕ) → Option ℕ
-count_named [] = None
-count_named (word ∷ []) = None
-count_named (word ∷ count ∷ []) =
-    if bytes_eq word (codes "generate") && is_count count then Some (digits_value 10 count) else None
-count_named (word ∷ count ∷ other ∷ words) = None
+abbrev pub spelled_count : List ℕ → Option ℕ
+spelled_count word = if is_count word then Some (digits_value 10 word) else None
 
--- how many purchases the words ask for
-unfoldable pub generate_of : List (List ℕ) → Option ℕ
-generate_of words = count_named (without_dashes words)
+-- `generate` and a count
+abbrev pub counted_subcommand : List ℕ → List ℕ → Option Subcommand
+counted_subcommand word count = if bytes_eq word (codes "generate") then option_map Generate (spelled_count count) else None
+
+-- what one word or two ask for
+abbrev pub named_subcommand : List (List ℕ) → Option Subcommand
+named_subcommand [] = None
+named_subcommand (word ∷ []) = lone_subcommand word
+named_subcommand (word ∷ count ∷ []) = counted_subcommand word count
+named_subcommand (word ∷ count ∷ other ∷ words) = None
+
+-- what the words ask for
+unfoldable pub subcommand_of : List (List ℕ) → Option Subcommand
+subcommand_of words = named_subcommand (without_dashes words)
+
+-- a generated scenario has from 1 to 10,000 purchases
+abbrev pub HasFewPurchases : Subcommand → Type 0
+HasFewPurchases (Play task) = ⊤
+HasFewPurchases (Generate purchases) = (1 ≤ purchases) × (purchases ≤ 10000)
+HasFewPurchases Check = ⊤
+
+-- whether the source is read for it
+abbrev pub asks_source : Option Subcommand → Bool
+asks_source None = false
+asks_source (Some (Play task)) = true
+asks_source (Some (Generate purchases)) = false
+asks_source (Some Check) = true
 
 -- what answers any other words
 unfoldable pub usage_line : List ℕ

@@ -1,14 +1,14 @@
 //! The verdict on a trace, or its document's first fault.
-ghost use Rattle.std.specs.Prelude.{◌≡◌, length, map, OnOk, OnErr};
+ghost use Rattle.std.specs.Prelude.{◌≡◌, OnOk, OnErr};
 ghost use Rattle.std.specs.Io.KnownBytes.{Appends};
-ghost use Rattle.std.specs.List.{All};
 ghost use Rattle.emv_ports.specs.Causes.{HasCause};
 ghost use Rattle.emv_ports.specs.Growth.{AppendsFront};
-ghost use Rattle.emv_ports.specs.Memory.{IsBlank};
-ghost use Rattle.emv_top.specs.Answers.{SinkCount, SourceCount, Unbegun};
+ghost use Rattle.emv_top.specs.Answers.{Unbegun};
 ghost use Rattle.emv_top.specs.Checking.{Checks, ChecksRead, TellsVerdict, verdict_line};
+ghost use Rattle.emv_top.specs.StatusCode.{Concludes, FaultCounts};
 ghost use Rattle.emv_top.specs.declared.status.Status.{Status};
 
+use crate::bank::BlankBank;
 use crate::ended::{Ended, refuse, unbegun};
 use crate::status::Status;
 use emv_ports::{Failed, Pages, ReadFault, Sink, Source, read_up_to, write_all};
@@ -45,12 +45,9 @@ fn emit_verdict<K: Sink>(verdict: Verdict, sink: &mut K) -> Result<(), Failed>
 }
 
 /// The line of a verdict, and the end of the program.
-fn tell_verdict<P: Pages, K: Sink>(verdict: Verdict, bank: Vec<P>, sink: &mut K) -> Ended<P>
-    requires pages { length bank.items ≡ 64 }
-    requires blank { All IsBlank (map P.memory bank.items) }
-    ensures tells { TellsVerdict verdict (K.held sink.old) (K.held sink.new) result.status }
-    ensures unbegun { Unbegun (map P.memory result.bank.items) result.tally }
-    ensures count { SinkCount (K.faults sink.old) (K.faults sink.new) result.status }
+fn tell_verdict<P: Pages, K: Sink>(verdict: Verdict, bank: BlankBank<P>, sink: &mut K) -> Ended<P>
+    ensures tells { Concludes (TellsVerdict verdict (K.held sink.old) (K.held sink.new)) (K.faults sink.old) (K.faults sink.new) result.status }
+    ensures unbegun { Unbegun result.bank result.tally }
 {
     match emit_verdict(verdict, sink) {
         Ok(()) => unbegun(Status::Done, bank),
@@ -62,14 +59,11 @@ fn tell_verdict<P: Pages, K: Sink>(verdict: Verdict, bank: Vec<P>, sink: &mut K)
 fn check_bytes<P: Pages, K: Sink>(
     alloc: Global,
     bytes: &[u8],
-    bank: Vec<P>,
+    bank: BlankBank<P>,
     sink: &mut K,
 ) -> Ended<P>
-    requires pages { length bank.items ≡ 64 }
-    requires blank { All IsBlank (map P.memory bank.items) }
-    ensures checks { Checks bytes.now (K.held sink.old) (K.held sink.new) result.status }
-    ensures unbegun { Unbegun (map P.memory result.bank.items) result.tally }
-    ensures count { SinkCount (K.faults sink.old) (K.faults sink.new) result.status }
+    ensures checks { Concludes (Checks bytes.now (K.held sink.old) (K.held sink.new)) (K.faults sink.old) (K.faults sink.new) result.status }
+    ensures unbegun { Unbegun result.bank result.tally }
 {
     match read_trace(alloc, bytes) {
         Ok(trace) => tell_verdict(check(&trace), bank, sink),
@@ -80,17 +74,14 @@ fn check_bytes<P: Pages, K: Sink>(
 /// Reads a trace from the source, and answers it. No card takes part.
 pub fn check_source<P: Pages, S: Source, K: Sink>(
     alloc: Global,
-    bank: Vec<P>,
+    bank: BlankBank<P>,
     source: &mut S,
     sink: &mut K,
 ) -> Ended<P>
-    requires pages { length bank.items ≡ 64 }
-    requires blank { All IsBlank (map P.memory bank.items) }
     ensures checks { ChecksRead (S.left source.old) (S.left source.new) (K.held sink.old) (K.held sink.new) result.status }
-    ensures unbegun { Unbegun (map P.memory result.bank.items) result.tally }
+    ensures unbegun { Unbegun result.bank result.tally }
     ensures unwritten { result.status ≡ Status.ReadFault → sink.new ≡ sink.old }
-    ensures source { SourceCount (S.faults source.old) (S.faults source.new) result.status }
-    ensures sink { SinkCount (K.faults sink.old) (K.faults sink.new) result.status }
+    ensures counts { FaultCounts (S.faults source.old) (S.faults source.new) (K.faults sink.old) (K.faults sink.new) result.status }
 {
     match read_up_to(alloc, source, MOST_BYTES + 1) {
         Ok(bytes) => check_bytes(alloc, bytes.as_slice(), bank, sink),

@@ -3,7 +3,7 @@ ghost use Rattle.std.specs.Prelude.{◌≡◌, OnOk, OnErr};
 ghost use Rattle.std.specs.Io.KnownBytes.{Appends};
 ghost use Rattle.emv_ports.specs.Growth.{AppendsFront};
 ghost use Rattle.emv_top.specs.Stops.{HasStop};
-ghost use Rattle.emv_top.specs.Texts.{text_of};
+ghost use Rattle.emv_top.specs.Texts.{text_of_lines};
 ghost use Rattle.txn_replay.specs.Run.{account_lines, closing};
 ghost use Rattle.txn_replay.specs.World.{World as Told};
 ghost use Rattle.txn_replay.specs.Seen.{WorldStands};
@@ -24,9 +24,9 @@ fn balance<P: Pages, K: Sink>(
     sink: &mut K,
 ) -> Result<(), Stop>
     ensures all { OnOk result ((w : Told) → WorldStands world.now w
-        → Appends (K.held sink.old) (K.held sink.new) (text_of (account_lines world.now.scenario w account.now))) }
+        → Appends (K.held sink.old) (K.held sink.new) (text_of_lines (account_lines world.now.scenario w account.now))) }
     ensures front { OnErr result ((w : Told) → WorldStands world.now w
-        → AppendsFront (K.held sink.old) (K.held sink.new) (text_of (account_lines world.now.scenario w account.now))) }
+        → AppendsFront (K.held sink.old) (K.held sink.new) (text_of_lines (account_lines world.now.scenario w account.now))) }
     ensures stop { HasStop (K.faults sink.old) (K.faults sink.new) result }
 {
     match world.balance(&account.pan) {
@@ -49,8 +49,8 @@ pub fn close<P: Pages, K: Sink>(
     sink: &mut K,
 ) -> Result<(), Stop>
     requires { world.now.scenario ≡ scenario.now }
-    ensures all { OnOk result ((w : Told) → WorldStands world.now w → Appends (K.held sink.old) (K.held sink.new) (text_of (closing scenario.now w))) }
-    ensures front { OnErr result ((w : Told) → WorldStands world.now w → AppendsFront (K.held sink.old) (K.held sink.new) (text_of (closing scenario.now w))) }
+    ensures all { OnOk result ((w : Told) → WorldStands world.now w → Appends (K.held sink.old) (K.held sink.new) (text_of_lines (closing scenario.now w))) }
+    ensures front { OnErr result ((w : Told) → WorldStands world.now w → AppendsFront (K.held sink.old) (K.held sink.new) (text_of_lines (closing scenario.now w))) }
     ensures stop { HasStop (K.faults sink.old) (K.faults sink.new) result }
 {
     for account in &scenario.accounts {

@@ -1,12 +1,12 @@
 //! What a run leaves: a status, the pages and the tally.
-ghost use Rattle.std.specs.Prelude.{◌≡◌, map, length};
-ghost use Rattle.std.specs.List.{All};
-ghost use Rattle.emv_ports.specs.Memory.{IsBlank};
-ghost use Rattle.emv_top.specs.Answers.{Leaves, Refuses, SinkCount, Unbegun};
+ghost use Rattle.std.specs.Prelude.{◌≡◌};
+ghost use Rattle.emv_top.specs.Answers.{Leaves, Refuses, Unbegun};
+ghost use Rattle.emv_top.specs.StatusCode.{Concludes};
 ghost use Rattle.txn_replay.specs.Laws.{IsFair};
 ghost use Rattle.txn_replay.specs.World.{World as Told};
 ghost use Rattle.txn_replay.specs.Seen.{WorldStands};
 
+use crate::bank::{BlankBank, UsedBank};
 use crate::status::Status;
 use emv_ports::{Failed, Pages, Sink, write_all};
 use kernel::Tally;
@@ -16,23 +16,20 @@ use txn_replay::World;
 
 /// How a run ended, the cards' pages, and what the terminals counted.
 #[derive(Drop)]
-pub struct Ended<P: Drop> {
+pub struct Ended<P: Pages> {
     pub status: Status,
-    pub bank: Vec<P>,
+    pub bank: UsedBank<P>,
     pub tally: Tally,
 }
 
 /// The end before a world was made.
-pub fn unbegun<P: Pages>(status: Status, bank: Vec<P>) -> Ended<P>
-    requires pages { length bank.items ≡ 64 }
-    requires blank { All IsBlank (map P.memory bank.items) }
+pub fn unbegun<P: Pages>(status: Status, bank: BlankBank<P>) -> Ended<P>
     ensures status { result.status ≡ status }
-    ensures unbegun { Unbegun (map P.memory result.bank.items) result.tally }
-    ensures bank { result.bank ≡ bank }
+    ensures unbegun { Unbegun result.bank result.tally }
 {
     Ended {
         status,
-        bank,
+        bank: bank.unused(),
         tally: Tally::new(),
     }
 }
@@ -41,14 +38,11 @@ pub fn unbegun<P: Pages>(status: Status, bank: Vec<P>) -> Ended<P>
 pub fn refuse<P: Pages, K: Sink>(
     alloc: Global,
     fault: &ScenarioFault,
-    bank: Vec<P>,
+    bank: BlankBank<P>,
     sink: &mut K,
 ) -> Ended<P>
-    requires pages { length bank.items ≡ 64 }
-    requires blank { All IsBlank (map P.memory bank.items) }
-    ensures refuses { Refuses fault.now (K.held sink.old) (K.held sink.new) (map P.memory result.bank.items) result.tally result.status }
-    ensures unbegun { Unbegun (map P.memory result.bank.items) result.tally }
-    ensures count { SinkCount (K.faults sink.old) (K.faults sink.new) result.status }
+    ensures refuses { Concludes (Refuses fault.now (K.held sink.old) (K.held sink.new) result.bank result.tally) (K.faults sink.old) (K.faults sink.new) result.status }
+    ensures unbegun { Unbegun result.bank result.tally }
 {
     match fault.line(alloc) {
         Ok(line) => match write_all(sink, line.as_bytes()) {
@@ -63,12 +57,12 @@ pub fn refuse<P: Pages, K: Sink>(
 pub fn end_world<P: Pages>(status: Status, world: World<'_, P>) -> Ended<P>
     ensures status { result.status ≡ status }
     ensures leaves { (w : Told) → WorldStands world.entry w → IsFair world.entry.scenario w
-        → Leaves world.entry.scenario (map P.memory result.bank.items) result.tally w }
+        → Leaves world.entry.scenario result.bank result.tally w }
 {
     let (bank, tally) = world.into_bank();
     Ended {
         status,
-        bank,
+        bank: UsedBank::new(bank),
         tally,
     }
 }

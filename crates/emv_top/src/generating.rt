@@ -1,18 +1,17 @@
 //! The run of a generated scenario, and its summary in place of a report.
-ghost use Rattle.std.specs.Prelude.{◌≡◌, ◌≤◌, ℕ, List, [], length, map, None, IfOk};
+ghost use Rattle.std.specs.Prelude.{◌≡◌, ◌≤◌, ℕ, List, [], None, IfOk};
 ghost use Rattle.std.specs.declared.option.Option.{Option};
 ghost use Rattle.std.specs.Io.{WritesAtMost};
-ghost use Rattle.std.specs.List.{All};
-ghost use Rattle.emv_ports.specs.Memory.{IsBlank};
-ghost use Rattle.emv_top.specs.Answers.{AreSettled, Completes, SinkCount};
+ghost use Rattle.emv_top.specs.Answers.{AreSettled, Completes};
 ghost use Rattle.emv_top.specs.Decided.{DecidedRun};
-ghost use Rattle.emv_top.specs.Generating.{Generates, booked, capped, paid, summary_of};
-ghost use Rattle.generated.specs.Generated.{generated_of};
+ghost use Rattle.emv_top.specs.Generating.{Generates, IsGenerated, booked, capped_sum, paid, summary_of};
+ghost use Rattle.emv_top.specs.StatusCode.{Concludes};
 ghost use Rattle.scenario.specs.Plan.{IsScenario};
 ghost use Rattle.txn_replay.specs.Laws.{IsFair};
 ghost use Rattle.txn_replay.specs.World.{World as Told};
 ghost use Rattle.txn_replay.specs.Seen.{WorldStands};
 
+use crate::bank::BlankBank;
 use crate::ended::{Ended, end_world, unbegun};
 use crate::replaying::replay_whole;
 use crate::status::Status;
@@ -64,7 +63,7 @@ fn write_summary(count: u32, tally: &Tally, booked: i128, out: &mut Text)
 
 /// What an account has paid.
 fn paid<P: Pages>(account: &Account, world: &World<'_, P>) -> i128
-    ensures { (w : Told) → WorldStands world.now w → result ≡ capped (paid world.now.scenario w account.now) }
+    ensures { (w : Told) → WorldStands world.now w → result ≡ capped_sum (paid world.now.scenario w account.now) }
 {
     match world.balance(&account.pan) {
         Some(balance) => i128::from(account.balance).saturating_sub(balance),
@@ -76,7 +75,7 @@ fn paid<P: Pages>(account: &Account, world: &World<'_, P>) -> i128
 fn booked<P: Pages>(scenario: &Scenario, world: &World<'_, P>) -> i128
     requires rules { IsScenario scenario.now }
     requires told { world.now.scenario ≡ scenario.now }
-    ensures { (w : Told) → WorldStands world.now w → result ≡ capped (booked scenario.now w) }
+    ensures { (w : Told) → WorldStands world.now w → result ≡ capped_sum (booked scenario.now w) }
 {
     let mut sum: i128 = 0;
     for account in &scenario.accounts {
@@ -92,12 +91,10 @@ fn sum_up<P: Pages, K: Sink>(
     world: World<'_, P>,
     sink: &mut K,
 ) -> Ended<P>
-    requires rules { IsScenario scenario.now }
-    requires is { scenario.now ≡ generated_of count }
+    requires generated { IsGenerated count scenario.now }
     requires told { world.scenario ≡ scenario.now }
     requires whole { Completes (DecidedRun scenario.now) (λ w. WorldStands world w × IsFair scenario.now w × AreSettled scenario.now w) None None }
-    ensures generates { Generates count (K.held sink.old) (K.held sink.new) (map P.memory result.bank.items) result.tally result.status }
-    ensures count { SinkCount (K.faults sink.old) (K.faults sink.new) result.status }
+    ensures { Concludes (Generates count (K.held sink.old) (K.held sink.new) result.bank result.tally) (K.faults sink.old) (K.faults sink.new) result.status }
 {
     let booked = booked(scenario, &world);
     let ended = end_world(Status::Done, world);
@@ -118,15 +115,11 @@ fn replay_generated<P: Pages, K: Sink>(
     alloc: Global,
     count: u32,
     scenario: &Scenario,
-    bank: Vec<P>,
+    bank: BlankBank<P>,
     sink: &mut K,
 ) -> Ended<P>
-    requires rules { IsScenario scenario.now }
-    requires is { scenario.now ≡ generated_of count }
-    requires pages { length bank.items ≡ 64 }
-    requires blank { All IsBlank (map P.memory bank.items) }
-    ensures generates { Generates count (K.held sink.old) (K.held sink.new) (map P.memory result.bank.items) result.tally result.status }
-    ensures count { SinkCount (K.faults sink.old) (K.faults sink.new) result.status }
+    requires { IsGenerated count scenario.now }
+    ensures { Concludes (Generates count (K.held sink.old) (K.held sink.new) result.bank result.tally) (K.faults sink.old) (K.faults sink.new) result.status }
 {
     match replay_whole(alloc, scenario, bank, &mut Unheard) {
         Ok(world) => sum_up(count, scenario, world, sink),
@@ -138,15 +131,12 @@ fn replay_generated<P: Pages, K: Sink>(
 pub fn generate<P: Pages, K: Sink>(
     alloc: Global,
     count: u32,
-    bank: Vec<P>,
+    bank: BlankBank<P>,
     sink: &mut K,
 ) -> Ended<P>
     requires some { 1 ≤ count }
     requires few { count ≤ 10000 }
-    requires pages { length bank.items ≡ 64 }
-    requires blank { All IsBlank (map P.memory bank.items) }
-    ensures generates { Generates count (K.held sink.old) (K.held sink.new) (map P.memory result.bank.items) result.tally result.status }
-    ensures count { SinkCount (K.faults sink.old) (K.faults sink.new) result.status }
+    ensures { Concludes (Generates count (K.held sink.old) (K.held sink.new) result.bank result.tally) (K.faults sink.old) (K.faults sink.new) result.status }
 {
     match generated(alloc, count) {
         Ok(scenario) => replay_generated(alloc, count, &scenario, bank, sink),

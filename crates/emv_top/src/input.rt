@@ -1,19 +1,19 @@
 //! The bytes that were read, as a scenario or its first fault.
 ghost use Rattle.std.specs.Prelude.{◌≡◌, ◌≤◌, length, codes, IfOk};
 ghost use Rattle.scenario.specs.Plan.{IsScenario};
-ghost use Rattle.scenario_fields.specs.Fault.{Tells};
+ghost use Rattle.scenario_fields.specs.Fault.{TellsFault};
 ghost use Rattle.scenario_fields.specs.declared.fault.ScenarioFault.TheVariants.{UnknownName};
 ghost use Rattle.txn_replay.specs.Reading.{to_read};
-ghost use Rattle.emv_top.specs.declared.words.Order.{Order};
+ghost use Rattle.emv_top.specs.declared.words.Task.{Task};
 ghost use Rattle.emv_top.specs.Input.{IsInput, first_purchases};
 
-use crate::words::Order;
+use crate::words::Task;
 use scenario::{Path, Scenario, ScenarioFault, read_scenario};
 use std::alloc::Global;
 
 /// The fault of a scenario of which no card can be read.
 fn no_purchase(alloc: Global) -> ScenarioFault
-    ensures { Tells result (UnknownName (codes "lane[0].purchase[0]")) }
+    ensures { TellsFault result (UnknownName (codes "lane[0].purchase[0]")) }
 {
     match String::from_str(alloc, "lane[0].purchase[0]") {
         Ok(text) => ScenarioFault::UnknownName {
@@ -37,15 +37,15 @@ fn first_count(scenario: &Scenario) -> usize
 
 /// Reads the scenario of its document's bytes. For `read` its first lane must have a purchase, which is
 /// tried last of all.
-pub fn read_input(alloc: Global, order: Order, bytes: &[u8]) -> Result<Scenario, ScenarioFault>
-    ensures exact { IsInput order bytes.now result }
+pub fn read_input(alloc: Global, task: Task, bytes: &[u8]) -> Result<Scenario, ScenarioFault>
+    ensures exact { IsInput task bytes.now result }
     ensures rules { IfOk result IsScenario }
-    ensures some { IfOk result (λ scenario. order ≡ Order.Read → 1 ≤ length (first_purchases scenario.lanes)) }
+    ensures some { IfOk result (λ scenario. task ≡ Task.Read → 1 ≤ length (first_purchases scenario.lanes)) }
 {
     let scenario = read_scenario(alloc, bytes)?;
-    match order {
-        Order::Replay => Ok(scenario),
-        Order::Read => {
+    match task {
+        Task::Replay => Ok(scenario),
+        Task::Read => {
             if first_count(&scenario) == 0 {
                 Err(no_purchase(alloc))
             } else {

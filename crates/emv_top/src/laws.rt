@@ -2,7 +2,7 @@
 ghost use Rattle.emv_top.specs.Decided.{RunsAreDecided};
 ghost use Rattle.emv_top.specs.Traces.{LinesAreEntries};
 
-use completeness::{hosts_are_linked, purchases_are_decided};
+use dialogue_laws::{hosts_are_linked, purchases_are_decided};
 
 /// In every run each ended purchase without a tear of its card or its terminal began with a completed power-up of its card, and where the card was
 /// well-formed with the decisions found then, it is approved or declined, whatever its link to the host.

@@ -3,6 +3,7 @@
 //! promises.
 #![tactic(auto)]
 
+mod bank;
 mod checking;
 mod closing;
 mod ended;

@@ -1,12 +1,10 @@
 //! The lines of a report, handed to the sink one by one.
-ghost use Rattle.std.specs.Prelude.{◌≡◌, [], OnOk, OnErr};
+ghost use Rattle.std.specs.Prelude.{◌≡◌, []};
 ghost use Rattle.std.specs.List.{flat_map};
-ghost use Rattle.std.specs.Io.KnownBytes.{Appends};
-ghost use Rattle.emv_ports.specs.Growth.{AppendsFront};
 ghost use Rattle.report_text.specs.Text.{line_text};
 ghost use Rattle.txn_replay.specs.Reading.{without_end};
-ghost use Rattle.emv_top.specs.Stops.{HasStop};
-ghost use Rattle.emv_top.specs.Texts.{text_of};
+ghost use Rattle.emv_top.specs.Stops.{Emits};
+ghost use Rattle.emv_top.specs.Texts.{text_of_lines};
 
 use crate::stop::Stop;
 use emv_ports::{Failed, Sink, write_all};
@@ -15,17 +13,17 @@ use txn_replay::Lines;
 
 /// Where the lines of an event and the text of a line are made: one for a whole run.
 #[derive(Drop)]
-pub struct Room {
+pub struct EventBuffers {
     pub lines: Lines,
     pub text: Text,
 }
 
-impl Room {
+impl EventBuffers {
     /// Room that holds nothing.
-    pub fn new() -> Room
+    pub fn new() -> EventBuffers
         ensures { result.lines.items ≡ [] }
     {
-        Room {
+        EventBuffers {
             lines: Lines::new(),
             text: Text::new(),
         }
@@ -34,9 +32,7 @@ impl Room {
 
 /// Hands a line's text to the sink, in one piece.
 fn hand_over<K: Sink>(text: &Text, sink: &mut K) -> Result<(), Stop>
-    ensures all { OnOk result (Appends (K.held sink.old) (K.held sink.new) text.now.items) }
-    ensures front { OnErr result (AppendsFront (K.held sink.old) (K.held sink.new) text.now.items) }
-    ensures stop { HasStop (K.faults sink.old) (K.faults sink.new) result }
+    ensures { Emits text.now.items (K.held sink.old) (K.held sink.new) (K.faults sink.old) (K.faults sink.new) result }
 {
     match write_all(sink, text.as_slice()) {
         Ok(()) => Ok(()),
@@ -46,9 +42,7 @@ fn hand_over<K: Sink>(text: &Text, sink: &mut K) -> Result<(), Stop>
 
 /// Hands a line to the sink.
 pub fn emit<K: Sink>(line: &Line, text: &mut Text, sink: &mut K) -> Result<(), Stop>
-    ensures all { OnOk result (Appends (K.held sink.old) (K.held sink.new) (line_text line.now)) }
-    ensures front { OnErr result (AppendsFront (K.held sink.old) (K.held sink.new) (line_text line.now)) }
-    ensures stop { HasStop (K.faults sink.old) (K.faults sink.new) result }
+    ensures { Emits (line_text line.now) (K.held sink.old) (K.held sink.new) (K.faults sink.old) (K.faults sink.new) result }
 {
     write_line(line, text);
     hand_over(text, sink)
@@ -56,9 +50,7 @@ pub fn emit<K: Sink>(line: &Line, text: &mut Text, sink: &mut K) -> Result<(), S
 
 /// Hands a line of an event to the sink.
 fn emit_packed<K: Sink>(line: &LineAt<'_>, text: &mut Text, sink: &mut K) -> Result<(), Stop>
-    ensures all { OnOk result (Appends (K.held sink.old) (K.held sink.new) (line_text line.now)) }
-    ensures front { OnErr result (AppendsFront (K.held sink.old) (K.held sink.new) (line_text line.now)) }
-    ensures stop { HasStop (K.faults sink.old) (K.faults sink.new) result }
+    ensures { Emits (line_text line.now) (K.held sink.old) (K.held sink.new) (K.faults sink.old) (K.faults sink.new) result }
 {
     write_packed(line, text);
     hand_over(text, sink)
@@ -66,9 +58,7 @@ fn emit_packed<K: Sink>(line: &LineAt<'_>, text: &mut Text, sink: &mut K) -> Res
 
 /// Hands the lines of an event to the sink.
 pub fn write_lines<K: Sink>(lines: &Lines, text: &mut Text, sink: &mut K) -> Result<(), Stop>
-    ensures all { OnOk result (Appends (K.held sink.old) (K.held sink.new) (text_of lines.now.items)) }
-    ensures front { OnErr result (AppendsFront (K.held sink.old) (K.held sink.new) (text_of lines.now.items)) }
-    ensures stop { HasStop (K.faults sink.old) (K.faults sink.new) result }
+    ensures { Emits (text_of_lines lines.now.items) (K.held sink.old) (K.held sink.new) (K.faults sink.old) (K.faults sink.new) result }
 {
     let mut left = lines.left();
     while let Some(line) = left.next() {
@@ -82,9 +72,7 @@ pub fn write_lines<K: Sink>(lines: &Lines, text: &mut Text, sink: &mut K) -> Res
 
 /// Hands a line of an event to the sink that a reading shows: all but an end line.
 fn emit_shown<K: Sink>(line: &LineAt<'_>, text: &mut Text, sink: &mut K) -> Result<(), Stop>
-    ensures all { OnOk result (Appends (K.held sink.old) (K.held sink.new) (text_of (without_end line.now))) }
-    ensures front { OnErr result (AppendsFront (K.held sink.old) (K.held sink.new) (text_of (without_end line.now))) }
-    ensures stop { HasStop (K.faults sink.old) (K.faults sink.new) result }
+    ensures { Emits (text_of_lines (without_end line.now)) (K.held sink.old) (K.held sink.new) (K.faults sink.old) (K.faults sink.new) result }
 {
     if line.is_end() {
         return Ok(());
@@ -94,9 +82,7 @@ fn emit_shown<K: Sink>(line: &LineAt<'_>, text: &mut Text, sink: &mut K) -> Resu
 
 /// Hands the lines of an event to the sink that a reading shows.
 pub fn write_shown<K: Sink>(lines: &Lines, text: &mut Text, sink: &mut K) -> Result<(), Stop>
-    ensures all { OnOk result (Appends (K.held sink.old) (K.held sink.new) (text_of (flat_map without_end lines.now.items))) }
-    ensures front { OnErr result (AppendsFront (K.held sink.old) (K.held sink.new) (text_of (flat_map without_end lines.now.items))) }
-    ensures stop { HasStop (K.faults sink.old) (K.faults sink.new) result }
+    ensures { Emits (text_of_lines (flat_map without_end lines.now.items)) (K.held sink.old) (K.held sink.new) (K.faults sink.old) (K.faults sink.new) result }
 {
     let mut left = lines.left();
     while let Some(line) = left.next() {

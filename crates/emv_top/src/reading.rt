@@ -3,19 +3,19 @@ ghost use Rattle.std.specs.Prelude.{◌≡◌, ◌≤◌, ◌<◌, ℕ, List, �
 ghost use Rattle.std.specs.Io.KnownBytes.{Appends};
 ghost use Rattle.emv_ports.specs.Growth.{AppendsFront};
 ghost use Rattle.emv_top.specs.Answers.{Completes};
-ghost use Rattle.emv_top.specs.Courses.{Reads, Stopped, shown_lines};
+ghost use Rattle.emv_top.specs.RunsSoFar.{IsPlayed, ReadsLane, RunWasStopped, shown_lines};
 ghost use Rattle.emv_top.specs.Input.{first_purchases};
-ghost use Rattle.emv_top.specs.Short.{AllShort, IsShort};
-ghost use Rattle.emv_top.specs.Stops.{HasStop};
-ghost use Rattle.emv_top.specs.Texts.{text_of};
+ghost use Rattle.emv_top.specs.Short.{AllShort, HasShortObjects};
+ghost use Rattle.emv_top.specs.Stops.{Emits, HasStop};
+ghost use Rattle.emv_top.specs.Texts.{text_of_lines};
 ghost use Rattle.report_text.specs.Text.{line_text};
-ghost use Rattle.scenario.specs.Plan.{IsScenario, ScenarioData};
+ghost use Rattle.scenario.specs.Plan.{ScenarioData};
 ghost use Rattle.txn_replay.specs.Reading.{ReadRun, is_read, data_at, ending_at, read_lines, object_line, to_read};
 ghost use Rattle.txn_replay.specs.World.{World as Told, first_world};
 ghost use Rattle.txn_replay.specs.Seen.{WorldStands};
 
 use crate::events::read_turn;
-use crate::lines::{Room, emit};
+use crate::lines::{EventBuffers, emit};
 use crate::stop::Stop;
 use arrayvec::ArrayVec;
 use ber_tlv::Tag;
@@ -50,9 +50,7 @@ fn object_line(tag: Tag, value: &[u8]) -> Line
 /// The line of a data object.
 fn write_object<K: Sink>(tag: Tag, value: &[u8], text: &mut Text, sink: &mut K) -> Result<(), Stop>
     requires { length value.now ≤ 256 }
-    ensures all { OnOk result (Appends (K.held sink.old) (K.held sink.new) (line_text (object_line (tag.0, value.now)))) }
-    ensures front { OnErr result (AppendsFront (K.held sink.old) (K.held sink.new) (line_text (object_line (tag.0, value.now)))) }
-    ensures stop { HasStop (K.faults sink.old) (K.faults sink.new) result }
+    ensures { Emits (line_text (object_line (tag.0, value.now))) (K.held sink.old) (K.held sink.new) (K.faults sink.old) (K.faults sink.new) result }
 {
     let line = object_line(tag, value);
     emit(&line, text, sink)
@@ -61,9 +59,7 @@ fn write_object<K: Sink>(tag: Tag, value: &[u8], text: &mut Text, sink: &mut K) 
 /// A line for each data object, by rising tag.
 fn write_objects<K: Sink>(env: &Env, text: &mut Text, sink: &mut K) -> Result<(), Stop>
     requires { AllShort env.now }
-    ensures all { OnOk result (Appends (K.held sink.old) (K.held sink.new) (text_of (map object_line env.now))) }
-    ensures front { OnErr result (AppendsFront (K.held sink.old) (K.held sink.new) (text_of (map object_line env.now))) }
-    ensures stop { HasStop (K.faults sink.old) (K.faults sink.new) result }
+    ensures { Emits (text_of_lines (map object_line env.now)) (K.held sink.old) (K.held sink.new) (K.faults sink.old) (K.faults sink.new) result }
 {
     let mut last = None;
     while let Some((tag, value)) = env.after(last) {
@@ -78,9 +74,7 @@ fn write_objects<K: Sink>(env: &Env, text: &mut Text, sink: &mut K) -> Result<()
 /// The lines of a finished reading.
 fn write_card<K: Sink>(card: &CardData, text: &mut Text, sink: &mut K) -> Result<(), Stop>
     requires { AllShort card.now.entries }
-    ensures all { OnOk result (Appends (K.held sink.old) (K.held sink.new) (text_of (map object_line card.now.entries ++ Line.ReadOk ∷ []))) }
-    ensures front { OnErr result (AppendsFront (K.held sink.old) (K.held sink.new) (text_of (map object_line card.now.entries ++ Line.ReadOk ∷ []))) }
-    ensures stop { HasStop (K.faults sink.old) (K.faults sink.new) result }
+    ensures { Emits (text_of_lines (map object_line card.now.entries ++ Line.ReadOk ∷ [])) (K.held sink.old) (K.held sink.new) (K.faults sink.old) (K.faults sink.new) result }
 {
     match write_objects(card.env(), text, sink) {
         Ok(()) => emit(&Line::ReadOk, text, sink),
@@ -95,11 +89,11 @@ fn write_reading<P: Pages, K: Sink>(
     sink: &mut K,
 ) -> Result<(), Stop>
     requires lane { 0 < length world.now.scenario.lanes }
-    requires short { (w : Told) × WorldStands world.now w × IfSome (data_at world.now.scenario w 0) IsShort }
+    requires short { (w : Told) × WorldStands world.now w × IfSome (data_at world.now.scenario w 0) HasShortObjects }
     ensures all { OnOk result ((w : Told) → WorldStands world.now w → Appends (K.held sink.old) (K.held sink.new)
-        (text_of (read_lines (data_at world.now.scenario w 0) (ending_at w 0)))) }
+        (text_of_lines (read_lines (data_at world.now.scenario w 0) (ending_at w 0)))) }
     ensures front { OnErr result ((w : Told) → WorldStands world.now w → AppendsFront (K.held sink.old) (K.held sink.new)
-        (text_of (read_lines (data_at world.now.scenario w 0) (ending_at w 0)))) }
+        (text_of_lines (read_lines (data_at world.now.scenario w 0) (ending_at w 0)))) }
     ensures stop { HasStop (K.faults sink.old) (K.faults sink.new) result }
 {
     match world.read_data(0) {
@@ -125,18 +119,17 @@ pub fn read_through<P: Pages, K: Sink>(
     world: &mut World<'_, P>,
     sink: &mut K,
 ) -> Result<(), Stop>
-    requires rules { IsScenario scenario.now }
+    requires played { IsPlayed scenario.now world.old }
     requires some { 1 ≤ length (first_purchases scenario.now.lanes) }
     requires untorn { (s : ScenarioData) × (scenario.now ≡ to_read s) }
-    requires told { world.old.scenario ≡ scenario.now }
     requires start { WorldStands world.old (first_world scenario.now) }
     ensures ok { OnOk result ((s : ScenarioData) → scenario.now ≡ to_read s
         → Completes (ReadRun s) (WorldStands world.new) (K.held sink.old) (K.held sink.new)) }
-    ensures err { OnErr result (Stopped scenario.now shown_lines (Reads scenario.now) (WorldStands world.new) (K.held sink.old) (K.held sink.new)) }
+    ensures err { OnErr result (RunWasStopped scenario.now shown_lines (ReadsLane scenario.now) (WorldStands world.new) (K.held sink.old) (K.held sink.new)) }
     ensures told { world.new.scenario ≡ scenario.now }
     ensures stop { HasStop (K.faults sink.old) (K.faults sink.new) result }
 {
-    let mut room = Room::new();
+    let mut room = EventBuffers::new();
     while !is_read(world) {
         match read_turn(world, &mut room, sink) {
             Ok(_) => {}

@@ -1,39 +1,26 @@
 //! The words of the command line.
-ghost use Rattle.std.specs.Prelude.{◌≡◌, ◌≤◌, ◌==◌, ◌∷◌, [], ◌&&◌, not, slice_index, Some, None, option_map, if◌then◌else◌, codes, map, string_bytes, IfSome};
+ghost use Rattle.std.specs.Prelude.{◌≡◌, ◌≤◌, ◌==◌, ◌&&◌, not, slice_index, codes, map, string_bytes, IfSome};
 ghost use Rattle.std.specs.Str.{bytes_eq};
-ghost use Rattle.std.specs.Str.Parse.{digits_value};
-ghost use Rattle.emv_top.specs.Words as spec;
-ghost use Rattle.emv_top.specs.Words.{order_of, order_named, is_count, count_named, generate_of, usage_line};
+ghost use Rattle.emv_top.specs.Words.{HasFewPurchases, counted_subcommand, lone_subcommand, spelled_count, subcommand_of, usage_line};
 
-/// What the program is asked to do.
+/// What the program is asked to make of a scenario.
 #[derive(Clone, Copy, PartialEq, Eq, Debug)]
-pub enum Order {
+pub enum Task {
     /// Read the card of the first lane's first purchase, and print what it gives.
     Read,
     /// Make all purchases of a scenario, and print each exchange and each end.
     Replay,
 }
 
-/// The one word that is left of the words behind the program's name, once the first word `--`, if any, is
-/// taken out.
-#[tactic(auto, unfolding(crate::specs::Words::sole_word))]
-fn sole_word(words: &[String]) -> Option<&String>
-    ensures { option_map (λ word. string_bytes word.now) result ≡ spec.sole_word (map string_bytes words.now) }
-{
-    match words {
-        [] => None,
-        [word] => { if is_dashes(word) { None } else { Some(word) } }
-        [first, second] => {
-            if is_dashes(first) {
-                Some(second)
-            } else if is_dashes(second) {
-                Some(first)
-            } else {
-                None
-            }
-        }
-        [_, _, _, ..] => None,
-    }
+/// What the program is asked to do.
+#[derive(Clone, Copy, PartialEq, Eq, Debug)]
+pub enum Subcommand {
+    /// Read a scenario, and make of it what the task says.
+    Play(Task),
+    /// Replay the generated scenario of so many purchases, and sum it up.
+    Generate(u32),
+    /// Read a trace, and check it.
+    Check,
 }
 
 fn is_dashes(word: &String) -> bool
@@ -42,81 +29,71 @@ fn is_dashes(word: &String) -> bool
     word.as_str() == "--"
 }
 
-fn order_named(word: &String) -> Option<Order>
-    ensures { result ≡ order_named (string_bytes word.now) }
+/// What a word alone asks for.
+fn lone_subcommand(word: &String) -> Option<Subcommand>
+    ensures exact { result ≡ lone_subcommand (string_bytes word.now) }
+    ensures fits { IfSome result HasFewPurchases }
 {
     match word.as_str() {
-        "read" => Some(Order::Read),
-        "replay" => Some(Order::Replay),
+        "read" => Some(Subcommand::Play(Task::Read)),
+        "replay" => Some(Subcommand::Play(Task::Replay)),
+        "check" => Some(Subcommand::Check),
         _ => None,
     }
 }
 
-/// The order that the words behind the program's name give, where they are in the grammar: `read` or
-/// `replay`, once the first word `--`, if any, is taken out.
-#[tactic(auto, unfolding(crate::specs::Words::order_of))]
-pub fn read_words(words: &[String]) -> Option<Order>
-    ensures { result ≡ order_of (map string_bytes words.now) }
+/// What a word and a count behind it ask for.
+fn counted_subcommand(word: &String, count: &String) -> Option<Subcommand>
+    ensures exact { result ≡ counted_subcommand (string_bytes word.now) (string_bytes count.now) }
+    ensures fits { IfSome result HasFewPurchases }
 {
-    match sole_word(words) {
-        Some(word) => order_named(word),
+    if word.as_str() != "generate" {
+        return None;
+    }
+    match count_in(count.as_str()) {
+        Some(purchases) => Some(Subcommand::Generate(purchases)),
         None => None,
     }
 }
 
-/// Whether the words ask for a trace to be checked: `check` alone, once the first word `--`, if any, is
-/// taken out.
-#[tactic(auto, unfolding(crate::specs::Words::asks_check))]
-pub fn asks_check(words: &[String]) -> bool
-    ensures { result ≡ spec.asks_check (map string_bytes words.now) }
-{
-    match sole_word(words) {
-        Some(word) => word.as_str() == "check",
-        None => false,
-    }
-}
-
-/// How many purchases of a generated scenario the words ask for: the first word `--`, if any, is taken
-/// out, and `generate` and a number from 1 to 10,000 in decimal digits without leading zeros are left.
-#[tactic(auto, unfolding(crate::specs::Words::generate_of))]
-pub fn read_count(words: &[String]) -> Option<u32>
-    ensures exact { result ≡ generate_of (map string_bytes words.now) }
-    ensures some { IfSome result (λ count. 1 ≤ count) }
-    ensures few { IfSome result (λ count. count ≤ 10000) }
+/// What the words behind the program's name ask for, where they are in the grammar: `read`, `replay`, `check`, or
+/// `generate` and a number from 1 to 10,000 in decimal digits without leading zeros, once the first word `--`, if any,
+/// is taken out.
+#[tactic(auto, unfolding(crate::specs::Words::subcommand_of))]
+pub fn read_subcommand(words: &[String]) -> Option<Subcommand>
+    ensures exact { result ≡ subcommand_of (map string_bytes words.now) }
+    ensures fits { IfSome result HasFewPurchases }
 {
     match words {
-        [] | [_] => None,
-        [first, second] => {
-            if is_dashes(first) || is_dashes(second) {
+        [] => None,
+        [word] => {
+            if is_dashes(word) {
                 None
             } else {
-                count_named(first, second)
+                lone_subcommand(word)
+            }
+        }
+        [first, second] => {
+            if is_dashes(first) {
+                lone_subcommand(second)
+            } else if is_dashes(second) {
+                lone_subcommand(first)
+            } else {
+                counted_subcommand(first, second)
             }
         }
         [first, second, third] => {
             if is_dashes(first) {
-                count_named(second, third)
+                counted_subcommand(second, third)
             } else if is_dashes(second) {
-                count_named(first, third)
+                counted_subcommand(first, third)
             } else if is_dashes(third) {
-                count_named(first, second)
+                counted_subcommand(first, second)
             } else {
                 None
             }
         }
         [_, _, _, _, ..] => None,
-    }
-}
-
-fn count_named(word: &String, count: &String) -> Option<u32>
-    ensures exact { result ≡ count_named (string_bytes word.now ∷ string_bytes count.now ∷ []) }
-    ensures some { IfSome result (λ n. 1 ≤ n) }
-    ensures few { IfSome result (λ n. n ≤ 10000) }
-{
-    if word.as_str() == "generate" {
-        count_in(count.as_str())
-    } else {
-        None
     }
 }
 
@@ -132,9 +109,8 @@ fn is_plain(word: &str) -> bool
 
 /// The count that a word spells.
 fn count_in(word: &str) -> Option<u32>
-    ensures exact { result ≡ (if is_count word.now then Some (digits_value 10 word.now) else None) }
-    ensures some { IfSome result (λ n. 1 ≤ n) }
-    ensures few { IfSome result (λ n. n ≤ 10000) }
+    ensures exact { result ≡ spelled_count word.now }
+    ensures fits { IfSome result (λ purchases. (1 ≤ purchases) × (purchases ≤ 10000)) }
 {
     if !is_plain(word) {
         return None;

@@ -5,17 +5,17 @@ use Rattle.std.proofs.lemmas.List.{length-take, length-take-le, take_at, drop_at
 use Rattle.std.proofs.lemmas.List.Sums.{sum_by-cons}
 use Rattle.std.proofs.Math.Seq.{take-add}
 use Rattle.ber_tlv.specs.declared.tag.Tag.{Tag}
-use Rattle.env_map.specs.Entries.{Entries, IsRising, value_of, with_entry, with_value, size_of_values, is_above, entries_after}
+use Rattle.env_map.specs.Entries.{Entries, IsRising, value_of, with_object, with_value, size_of_values, is_tag_above, entries_after}
 use Rattle.env_map.specs.Places.{entries_of, count_of_bytes, index_for, start_for, start_at}
 use Rattle.env_map.specs.Put.{put_of, set_of}
-use Rattle.env_map.specs.declared.place.Place.{Place}
+use Rattle.env_map.specs.declared.place.ObjectPlace.{ObjectPlace}
 use Rattle.env_map.specs.declared.env.EnvFault.TheVariants.{Repeated, TooMany, TooLong}
 
-pub length-entries_of : (bytes : List ℕ) (places : List Place) → length (entries_of bytes places) ≡ length places
+pub length-entries_of : (bytes : List ℕ) (places : List ObjectPlace) → length (entries_of bytes places) ≡ length places
 length-entries_of bytes [] = refl
 length-entries_of bytes (place ∷ places) = ap suc (length-entries_of (drop place.count bytes) places)
 
-pub size_of_values-entries_of : (bytes : List ℕ) (places : List Place) → count_of_bytes places ≤ length bytes → size_of_values (entries_of bytes places) ≡ count_of_bytes places
+pub size_of_values-entries_of : (bytes : List ℕ) (places : List ObjectPlace) → count_of_bytes places ≤ length bytes → size_of_values (entries_of bytes places) ≡ count_of_bytes places
 size_of_values-entries_of bytes [] within = refl
 size_of_values-entries_of bytes (place ∷ places) within =
     let here : length (take place.count bytes) ≡ place.count = length-take-le place.count bytes (omega arith) in
@@ -26,7 +26,7 @@ size_of_values-entries_of bytes (place ∷ places) within =
     step ∙ rw (here, rest) refl
 
 -- the first value, and the others behind it
-entries_of-first : (front rest : List ℕ) (place : Place) (places : List Place) → length front ≡ place.count → entries_of (front ++ rest) (place ∷ places) ≡ (place.tag.0, front) ∷ entries_of rest places
+entries_of-first : (front rest : List ℕ) (place : ObjectPlace) (places : List ObjectPlace) → length front ≡ place.count → entries_of (front ++ rest) (place ∷ places) ≡ (place.tag.0, front) ∷ entries_of rest places
 entries_of-first front rest place places e = rw (take_at front rest place.count e, drop_at front rest place.count e) refl
 
 -- the bytes with a value between, split behind the first of them
@@ -35,13 +35,13 @@ value_between : (count start : ℕ) (bytes value : List ℕ) → take (count + s
 value_between count start bytes value = rw (take-add count start bytes, ← drop-drop start count bytes) (append_assoc (take count bytes) (take start (drop count bytes)) _)
 
 -- the bytes with a value where an object of this tag goes
-abbrev pub bytes_with : ℕ → List ℕ → List ℕ → List Place → List ℕ
+abbrev pub bytes_with : ℕ → List ℕ → List ℕ → List ObjectPlace → List ℕ
 bytes_with tag value bytes places = take (start_for tag places) bytes ++ (value ++ drop (start_for tag places) bytes)
 
-entries_of-insert_at : (test : Bool) (bytes value : List ℕ) (first : Place) (places : List Place) (place : Place) → nat_lt place.tag.0 first.tag.0 ≡ test
+entries_of-insert_at : (test : Bool) (bytes value : List ℕ) (first : ObjectPlace) (places : List ObjectPlace) (place : ObjectPlace) → nat_lt place.tag.0 first.tag.0 ≡ test
     → place.count ≡ length value → first.count ≤ length bytes
-    → entries_of (bytes_with place.tag.0 value (drop first.count bytes) places) (insert places (index_for place.tag.0 places) place) ≡ with_entry place.tag.0 value (entries_of (drop first.count bytes) places)
-    → entries_of (bytes_with place.tag.0 value bytes (first ∷ places)) (insert (first ∷ places) (index_for place.tag.0 (first ∷ places)) place) ≡ with_entry place.tag.0 value (entries_of bytes (first ∷ places))
+    → entries_of (bytes_with place.tag.0 value (drop first.count bytes) places) (insert places (index_for place.tag.0 places) place) ≡ with_object place.tag.0 value (entries_of (drop first.count bytes) places)
+    → entries_of (bytes_with place.tag.0 value bytes (first ∷ places)) (insert (first ∷ places) (index_for place.tag.0 (first ∷ places)) place) ≡ with_object place.tag.0 value (entries_of bytes (first ∷ places))
 entries_of-insert_at true bytes value first places place test e within later =
     rw test (entries_of-first value bytes place (first ∷ places) (sym e))
 entries_of-insert_at false bytes value first places place test e within later =
@@ -51,8 +51,8 @@ entries_of-insert_at false bytes value first places place test e within later =
     rw (test, between) (kept ∙ ap (λ entries. (first.tag.0, take first.count bytes) ∷ entries) later)
 
 -- an entry more, before the first greater tag
-pub entries_of-insert : (bytes value : List ℕ) (places : List Place) (place : Place) → place.count ≡ length value → count_of_bytes places ≤ length bytes
-    → entries_of (bytes_with place.tag.0 value bytes places) (insert places (index_for place.tag.0 places) place) ≡ with_entry place.tag.0 value (entries_of bytes places)
+pub entries_of-insert : (bytes value : List ℕ) (places : List ObjectPlace) (place : ObjectPlace) → place.count ≡ length value → count_of_bytes places ≤ length bytes
+    → entries_of (bytes_with place.tag.0 value bytes places) (insert places (index_for place.tag.0 places) place) ≡ with_object place.tag.0 value (entries_of bytes places)
 entries_of-insert bytes value [] place e within = entries_of-first value bytes place [] (sym e)
 entries_of-insert bytes value (first ∷ places) place e within =
     entries_of-insert_at (nat_lt place.tag.0 first.tag.0) bytes value first places place refl e (omega arith)
@@ -67,11 +67,11 @@ AllAbove-lower low high [] below all = tt
 AllAbove-lower low high (entry ∷ entries) below (first, all) = (omega arith, AllAbove-lower low high entries below all)
 
 AllAbove-with_at : (test : Bool) (least tag : ℕ) (value : List ℕ) (entry : ℕ × List ℕ) (entries : Entries) → nat_lt tag entry.0 ≡ test → least < tag → AllAbove least (entry ∷ entries)
-    → AllAbove least (with_entry tag value entries) → AllAbove least (with_entry tag value (entry ∷ entries))
+    → AllAbove least (with_object tag value entries) → AllAbove least (with_object tag value (entry ∷ entries))
 AllAbove-with_at true least tag value entry entries test below all later = rw test (below, all)
 AllAbove-with_at false least tag value entry entries test below all later = rw test (all.0, later)
 
-AllAbove-with : (least tag : ℕ) (value : List ℕ) (entries : Entries) → least < tag → AllAbove least entries → AllAbove least (with_entry tag value entries)
+AllAbove-with : (least tag : ℕ) (value : List ℕ) (entries : Entries) → least < tag → AllAbove least entries → AllAbove least (with_object tag value entries)
 AllAbove-with least tag value [] below all = (below, tt)
 AllAbove-with least tag value (entry ∷ entries) below all =
     AllAbove-with_at (nat_lt tag entry.0) least tag value entry entries refl below all (AllAbove-with least tag value entries below all.1)
@@ -80,7 +80,7 @@ absent_later : (tag : ℕ) (entry : ℕ × List ℕ) (entries : Entries) → val
 absent_later tag entry entries absent = (grind arith, λ e. grind arith)
 
 IsRising-with_at : (test : Bool) (tag : ℕ) (value : List ℕ) (entry : ℕ × List ℕ) (entries : Entries) → nat_lt tag entry.0 ≡ test → (entry.0 ≡ tag → ⊥) → IsRising (entry ∷ entries)
-    → IsRising (with_entry tag value entries) → IsRising (with_entry tag value (entry ∷ entries))
+    → IsRising (with_object tag value entries) → IsRising (with_object tag value (entry ∷ entries))
 IsRising-with_at true tag value entry entries test other rising later =
     let below : tag < entry.0 = grind arith in
     rw test ((below, AllAbove-lower tag entry.0 entries (omega arith) rising.0), rising)
@@ -89,13 +89,13 @@ IsRising-with_at false tag value entry entries test other rising later =
     rw test (AllAbove-with entry.0 tag value entries above rising.0, later)
 
 -- one entry more, of a tag that is absent, keeps the order
-pub IsRising-with : (tag : ℕ) (value : List ℕ) (entries : Entries) → value_of tag entries ≡ None → IsRising entries → IsRising (with_entry tag value entries)
+pub IsRising-with : (tag : ℕ) (value : List ℕ) (entries : Entries) → value_of tag entries ≡ None → IsRising entries → IsRising (with_object tag value entries)
 IsRising-with tag value [] absent rising = (tt, tt)
 IsRising-with tag value (entry ∷ entries) absent rising =
     let later = absent_later tag entry entries absent in
     IsRising-with_at (nat_lt tag entry.0) tag value entry entries refl later.1 rising (IsRising-with tag value entries later.0 rising.1)
 
-pub count_of_bytes-insert : (places : List Place) (index : ℕ) (place : Place) → count_of_bytes (insert places index place) ≡ place.count + count_of_bytes places
+pub count_of_bytes-insert : (places : List ObjectPlace) (index : ℕ) (place : ObjectPlace) → count_of_bytes (insert places index place) ≡ place.count + count_of_bytes places
 count_of_bytes-insert places zero place = refl
 count_of_bytes-insert [] (suc index) place = refl
 count_of_bytes-insert (first ∷ places) (suc index) place =
@@ -111,7 +111,7 @@ start_at-value_of_first false count None found value later = later
 start_at-value_of_first false count (Some start) found value later = later
 
 -- a tag has a place exactly where it has a value
-pub start_at-value_of : (bytes : List ℕ) (places : List Place) (tag : ℕ) → is_some (start_at tag places) ≡ is_some (value_of tag (entries_of bytes places))
+pub start_at-value_of : (bytes : List ℕ) (places : List ObjectPlace) (tag : ℕ) → is_some (start_at tag places) ≡ is_some (value_of tag (entries_of bytes places))
 start_at-value_of bytes [] tag = refl
 start_at-value_of bytes (place ∷ places) tag =
     start_at-value_of_first (place.tag.0 == tag) place.count (start_at tag places) (take place.count bytes) _ (start_at-value_of (drop place.count bytes) places tag)
@@ -139,7 +139,7 @@ value_later : (test : Bool) (value found : List ℕ) (later : Option (List ℕ))
 value_later test value found later is e = grind arith
 
 -- the bytes of a value, and where they end
-pub value_within : (bytes old : List ℕ) (places : List Place) (tag start : ℕ) → count_of_bytes places ≤ length bytes → start_at tag places ≡ Some start → value_of tag (entries_of bytes places) ≡ Some old
+pub value_within : (bytes old : List ℕ) (places : List ObjectPlace) (tag start : ℕ) → count_of_bytes places ≤ length bytes → start_at tag places ≡ Some start → value_of tag (entries_of bytes places) ≡ Some old
     → start + length old ≤ count_of_bytes places
 value_within bytes old [] tag start within is_start is_old = cc
 value_within bytes old (place ∷ places) tag start within is_start is_old =
@@ -155,7 +155,7 @@ value_within bytes old (place ∷ places) tag start within is_start is_old =
     ]
 
 -- another value of the same length, written over
-pub entries_of-over : (bytes value old : List ℕ) (places : List Place) (tag start : ℕ) → count_of_bytes places ≤ length bytes → start_at tag places ≡ Some start → value_of tag (entries_of bytes places) ≡ Some old
+pub entries_of-over : (bytes value old : List ℕ) (places : List ObjectPlace) (tag start : ℕ) → count_of_bytes places ≤ length bytes → start_at tag places ≡ Some start → value_of tag (entries_of bytes places) ≡ Some old
     → length old ≡ length value → entries_of (bytes_over start value bytes) places ≡ with_value tag value (entries_of bytes places)
 entries_of-over bytes value old [] tag start within is_start is_old same_length = cc
 entries_of-over bytes value old (place ∷ places) tag start within is_start is_old same_length =
@@ -207,32 +207,32 @@ unfoldable pub Follows : Option Tag → Entries → Option (ℕ × List ℕ) →
 Follows given entries None = entries_after given entries ≡ []
 Follows given entries (Some entry) = (entries_after given entries ≡ entry ∷ entries_after (Some (record { 0 = entry.0 })) entries)
 
-is_above-higher : (given : Option Tag) (low high : ℕ) → low < high → is_above given low ≡ true → is_above given high ≡ true
-is_above-higher None low high below e = refl
-is_above-higher (Some tag) low high below e = grind arith
+is_tag_above-higher : (given : Option Tag) (low high : ℕ) → low < high → is_tag_above given low ≡ true → is_tag_above given high ≡ true
+is_tag_above-higher None low high below e = refl
+is_tag_above-higher (Some tag) low high below e = grind arith
 
-entries_after-first : (test : Bool) (given : Option Tag) (entry : ℕ × List ℕ) (entries : Entries) → is_above given entry.0 ≡ test
+entries_after-first : (test : Bool) (given : Option Tag) (entry : ℕ × List ℕ) (entries : Entries) → is_tag_above given entry.0 ≡ test
     → entries_after given (entry ∷ entries) ≡ (if test then entry ∷ entries_after given entries else entries_after given entries)
 entries_after-first true given entry entries test = rw test refl
 entries_after-first false given entry entries test = rw test refl
 
-entries_after-all : (given : Option Tag) (tag : ℕ) (entries : Entries) → is_above given tag ≡ true → AllAbove tag entries → entries_after given entries ≡ entries
+entries_after-all : (given : Option Tag) (tag : ℕ) (entries : Entries) → is_tag_above given tag ≡ true → AllAbove tag entries → entries_after given entries ≡ entries
 entries_after-all given tag [] above all = refl
 entries_after-all given tag (entry ∷ entries) above all =
-    entries_after-first true given entry entries (is_above-higher given tag entry.0 all.0 above)
+    entries_after-first true given entry entries (is_tag_above-higher given tag entry.0 all.0 above)
     ∙ ap (λ rest. entry ∷ rest) (entries_after-all given tag entries above all.1)
 
 entries_after_own : (tag : ℕ) (entries : Entries) → AllAbove tag entries → entries_after (Some (record { 0 = tag })) entries ≡ entries
 entries_after_own tag [] all = refl
 entries_after_own tag (entry ∷ entries) all =
-    let above : is_above (Some (record { 0 = tag })) entry.0 ≡ true = grind arith in
+    let above : is_tag_above (Some (record { 0 = tag })) entry.0 ≡ true = grind arith in
     entries_after-first true (Some (record { 0 = tag })) entry entries above ∙ ap (λ rest. entry ∷ rest) (entries_after_own tag entries all.1)
 
 -- the first entry above a tag
 abbrev pub first_after : Option Tag → Entries → Option (ℕ × List ℕ)
-first_after given entries = find (λ entry. is_above given entry.0) entries
+first_after given entries = find (λ entry. is_tag_above given entry.0) entries
 
-first_after-first : (test : Bool) (given : Option Tag) (entry : ℕ × List ℕ) (entries : Entries) → is_above given entry.0 ≡ test
+first_after-first : (test : Bool) (given : Option Tag) (entry : ℕ × List ℕ) (entries : Entries) → is_tag_above given entry.0 ≡ test
     → first_after given (entry ∷ entries) ≡ (if test then Some entry else first_after given entries)
 first_after-first true given entry entries test = rw test refl
 first_after-first false given entry entries test = rw test refl
@@ -249,22 +249,22 @@ FoundAbove-first false tag entry later here found = found
 FoundAbove-found : (given : Option Tag) (tag : ℕ) (entries : Entries) → AllAbove tag entries → FoundAbove tag (first_after given entries)
 FoundAbove-found given tag [] all = tt
 FoundAbove-found given tag (entry ∷ entries) all =
-    FoundAbove-first (is_above given entry.0) tag entry (first_after given entries) all.0 (FoundAbove-found given tag entries all.1)
+    FoundAbove-first (is_tag_above given entry.0) tag entry (first_after given entries) all.0 (FoundAbove-found given tag entries all.1)
 
-Follows-later : (given : Option Tag) (entry : ℕ × List ℕ) (entries : Entries) (found : Option (ℕ × List ℕ)) → is_above given entry.0 ≡ false → FoundAbove entry.0 found
+Follows-later : (given : Option Tag) (entry : ℕ × List ℕ) (entries : Entries) (found : Option (ℕ × List ℕ)) → is_tag_above given entry.0 ≡ false → FoundAbove entry.0 found
     → Follows given entries found → Follows given (entry ∷ entries) found
 unfolding Follows
 Follows-later given entry entries None skipped above follows = entries_after-first false given entry entries skipped ∙ follows
 Follows-later given entry entries (Some found) skipped above follows =
-    let passed : is_above (Some (record { 0 = found.0 })) entry.0 ≡ false = grind arith in
+    let passed : is_tag_above (Some (record { 0 = found.0 })) entry.0 ≡ false = grind arith in
     entries_after-first false given entry entries skipped ∙ follows
     ∙ ap (λ rest. found ∷ rest) (sym (entries_after-first false (Some (record { 0 = found.0 })) entry entries passed))
 
-Follows-at : (test : Bool) (given : Option Tag) (entry : ℕ × List ℕ) (entries : Entries) → is_above given entry.0 ≡ test → IsRising (entry ∷ entries)
+Follows-at : (test : Bool) (given : Option Tag) (entry : ℕ × List ℕ) (entries : Entries) → is_tag_above given entry.0 ≡ test → IsRising (entry ∷ entries)
     → Follows given entries (first_after given entries) → Follows given (entry ∷ entries) (if test then Some entry else first_after given entries)
 unfolding Follows
 Follows-at true given entry entries test rising follows =
-    let here : is_above (Some (record { 0 = entry.0 })) entry.0 ≡ false = grind arith in
+    let here : is_tag_above (Some (record { 0 = entry.0 })) entry.0 ≡ false = grind arith in
     let all = entries_after-all given entry.0 entries test rising.0 in
     let behind : entries_after (Some (record { 0 = entry.0 })) entries ≡ entries = entries_after_own entry.0 entries rising.0 in
     entries_after-first true given entry entries test
@@ -276,8 +276,8 @@ pub Follows-found : (given : Option Tag) (entries : Entries) → IsRising entrie
 unfolding Follows
 Follows-found given [] rising = refl
 Follows-found given (entry ∷ entries) rising =
-    rw (first_after-first (is_above given entry.0) given entry entries refl)
-    (Follows-at (is_above given entry.0) given entry entries refl rising (Follows-found given entries rising.1))
+    rw (first_after-first (is_tag_above given entry.0) given entry entries refl)
+    (Follows-at (is_tag_above given entry.0) given entry entries refl rising (Follows-found given entries rising.1))
 
 -- the same of what a search returned
 pub Follows-returned : {X : Type 0} (shown : X → ℕ × List ℕ) (result : Option X) (given : Option Tag) (entries : Entries) → IsRising entries
@@ -301,18 +301,18 @@ pub put_of-long : (tag : Tag) (value : List ℕ) (entries : Entries) → value_o
 put_of-long tag value entries none few long = rw none (grind arith)
 
 pub put_of-fits : (tag : Tag) (value : List ℕ) (entries : Entries) → value_of tag.0 entries ≡ None → length entries < 512 → size_of_values entries + length value ≤ 16384
-    → put_of tag value entries ≡ Ok (with_entry tag.0 value entries)
+    → put_of tag value entries ≡ Ok (with_object tag.0 value entries)
 put_of-fits tag value entries none few short = rw none (grind arith)
 
 -- the entries of the bytes and places as `put` leaves them
-pub entries_of-put : (bytes value new_bytes : List ℕ) (places new_places : List Place) (tag : Tag) (index start : ℕ) → count_of_bytes places ≤ length bytes
+pub entries_of-put : (bytes value new_bytes : List ℕ) (places new_places : List ObjectPlace) (tag : Tag) (index start : ℕ) → count_of_bytes places ≤ length bytes
     → index ≡ index_for tag.0 places → start ≡ start_for tag.0 places
     → new_bytes ≡ take start bytes ++ (value ++ drop start bytes) → new_places ≡ insert places index (record { tag = tag; count = length value })
-    → entries_of new_bytes new_places ≡ with_entry tag.0 value (entries_of bytes places)
+    → entries_of new_bytes new_places ≡ with_object tag.0 value (entries_of bytes places)
 entries_of-put bytes value new_bytes places new_places tag index start within is_index is_start is_bytes is_places =
     rw (is_bytes, is_places, is_index, is_start) (entries_of-insert bytes value places (record { tag = tag; count = length value }) refl within)
 
-pub filled-put : (bytes value new_bytes : List ℕ) (places new_places : List Place) (tag : Tag) (index start : ℕ) → count_of_bytes places ≡ length bytes
+pub filled-put : (bytes value new_bytes : List ℕ) (places new_places : List ObjectPlace) (tag : Tag) (index start : ℕ) → count_of_bytes places ≡ length bytes
     → new_bytes ≡ take start bytes ++ (value ++ drop start bytes) → new_places ≡ insert places index (record { tag = tag; count = length value })
     → count_of_bytes new_places ≡ length new_bytes
 filled-put bytes value new_bytes places new_places tag index start filled is_bytes is_places =
@@ -323,12 +323,12 @@ some_value None e = cc
 some_value (Some old) e = (old, refl)
 
 -- a tag that has a place has a value
-pub present : (bytes : List ℕ) (places : List Place) (tag start : ℕ) → start_at tag places ≡ Some start → (old : List ℕ) × (value_of tag (entries_of bytes places) ≡ Some old)
+pub present : (bytes : List ℕ) (places : List ObjectPlace) (tag start : ℕ) → start_at tag places ≡ Some start → (old : List ℕ) × (value_of tag (entries_of bytes places) ≡ Some old)
 present bytes places tag start is_start =
     some_value (value_of tag (entries_of bytes places)) (sym (start_at-value_of bytes places tag) ∙ ap is_some is_start)
 
 -- the value of a tag that has a place ends within the bytes
-pub over_within : (bytes value : List ℕ) (places : List Place) (tag start : ℕ) → count_of_bytes places ≡ length bytes → start_at tag places ≡ Some start
+pub over_within : (bytes value : List ℕ) (places : List ObjectPlace) (tag start : ℕ) → count_of_bytes places ≡ length bytes → start_at tag places ≡ Some start
     → ((old : List ℕ) → value_of tag (entries_of bytes places) ≡ Some old → length old ≡ length value) → start + length value ≤ length bytes
 over_within bytes value places tag start filled is_start same_length =
     let old = present bytes places tag start is_start in
@@ -341,7 +341,7 @@ pub refilled : (bytes value new_bytes : List ℕ) (start : ℕ) → start + leng
 refilled bytes value new_bytes start within is_bytes =
     take_at new_bytes (drop (length new_bytes) bytes) (length bytes) (ap length is_bytes ∙ length-bytes_over start value bytes within) ∙ is_bytes
 
-pub entries_of-set : (bytes value : List ℕ) (places : List Place) (tag start : ℕ) → count_of_bytes places ≡ length bytes → start_at tag places ≡ Some start
+pub entries_of-set : (bytes value : List ℕ) (places : List ObjectPlace) (tag start : ℕ) → count_of_bytes places ≡ length bytes → start_at tag places ≡ Some start
     → ((old : List ℕ) → value_of tag (entries_of bytes places) ≡ Some old → length old ≡ length value)
     → entries_of (bytes_over start value bytes) places ≡ with_value tag value (entries_of bytes places)
 entries_of-set bytes value places tag start filled is_start same_length =
@@ -356,13 +356,13 @@ set_of-absent tag value entries missing = rw missing refl
 
 -- the value at a tag that was put, and at the others
 value_of-with_at : (here : Bool) (tag : ℕ) (value : List ℕ) (entry : ℕ × List ℕ) (entries : Entries) → nat_lt tag entry.0 ≡ here → (entry.0 == tag) ≡ false
-    → value_of tag (with_entry tag value entries) ≡ Some value → value_of tag (with_entry tag value (entry ∷ entries)) ≡ Some value
+    → value_of tag (with_object tag value entries) ≡ Some value → value_of tag (with_object tag value (entry ∷ entries)) ≡ Some value
 value_of-with_at true tag value entry entries test other later =
     let same : (tag == tag) ≡ true = grind arith in
     rw (test, same) refl
 value_of-with_at false tag value entry entries test other later = rw (test, other) later
 
-value_of-with : (tag : ℕ) (value : List ℕ) (entries : Entries) → value_of tag entries ≡ None → value_of tag (with_entry tag value entries) ≡ Some value
+value_of-with : (tag : ℕ) (value : List ℕ) (entries : Entries) → value_of tag entries ≡ None → value_of tag (with_object tag value entries) ≡ Some value
 value_of-with tag value [] absent = let same : (tag == tag) ≡ true = grind arith in rw same refl
 value_of-with tag value (entry ∷ entries) absent =
     let later = absent_later tag entry entries absent in
@@ -370,11 +370,11 @@ value_of-with tag value (entry ∷ entries) absent =
     value_of-with_at (nat_lt tag entry.0) tag value entry entries refl other (value_of-with tag value entries later.0)
 
 value_of-with_other_at : (here : Bool) (tag other : ℕ) (value : List ℕ) (entry : ℕ × List ℕ) (entries : Entries) → nat_lt tag entry.0 ≡ here → (tag == other) ≡ false
-    → value_of other (with_entry tag value entries) ≡ value_of other entries → value_of other (with_entry tag value (entry ∷ entries)) ≡ value_of other (entry ∷ entries)
+    → value_of other (with_object tag value entries) ≡ value_of other entries → value_of other (with_object tag value (entry ∷ entries)) ≡ value_of other (entry ∷ entries)
 value_of-with_other_at true tag other value entry entries test apart later = rw (test, apart) refl
 value_of-with_other_at false tag other value entry entries test apart later = rw (test, later) refl
 
-value_of-with_other : (tag other : ℕ) (value : List ℕ) (entries : Entries) → (tag == other) ≡ false → value_of other (with_entry tag value entries) ≡ value_of other entries
+value_of-with_other : (tag other : ℕ) (value : List ℕ) (entries : Entries) → (tag == other) ≡ false → value_of other (with_object tag value entries) ≡ value_of other entries
 value_of-with_other tag other value [] apart = rw apart refl
 value_of-with_other tag other value (entry ∷ entries) apart =
     value_of-with_other_at (nat_lt tag entry.0) tag other value entry entries refl apart (value_of-with_other tag other value entries apart)
@@ -410,12 +410,12 @@ apart : (tag other : ℕ) → other ≢ tag → (tag == other) ≡ false
 apart tag other different = grind arith
 
 puts_at : (found : Option (List ℕ)) (many long : Bool) (tag : Tag) (value : List ℕ) (old new : Entries) → value_of tag.0 old ≡ found
-    → (if is_some found then Err (Repeated tag) else if many then Err TooMany else if long then Err TooLong else Ok (with_entry tag.0 value old)) ≡ Ok new → Puts old new tag.0 value
+    → (if is_some found then Err (Repeated tag) else if many then Err TooMany else if long then Err TooLong else Ok (with_object tag.0 value old)) ≡ Ok new → Puts old new tag.0 value
 puts_at (Some before) many long tag value old new is_found e = cc
 puts_at None true long tag value old new is_found e = cc
 puts_at None false true tag value old new is_found e = cc
 puts_at None false false tag value old new is_found e =
-    let same : with_entry tag.0 value old ≡ new = cc in
+    let same : with_object tag.0 value old ≡ new = cc in
     record {
       there = ap (value_of tag.0) (sym same) ∙ value_of-with tag.0 value old is_found;
       others = λ other different. ap (value_of other) (sym same) ∙ value_of-with_other tag.0 other value old (apart tag.0 other different);
@@ -448,13 +448,13 @@ value_of-below tag (entry ∷ entries) (below, all) =
     let other : (entry.0 == tag) ≡ false = grind arith in
     rw other (value_of-below tag entries all)
 
-with_entry-below : (tag : ℕ) (value : List ℕ) (entries : Entries) → AllBelow tag entries → entries ++ (tag, value) ∷ [] ≡ with_entry tag value entries
-with_entry-below tag value [] all = refl
-with_entry-below tag value (entry ∷ entries) (below, all) =
+with_object-below : (tag : ℕ) (value : List ℕ) (entries : Entries) → AllBelow tag entries → entries ++ (tag, value) ∷ [] ≡ with_object tag value entries
+with_object-below tag value [] all = refl
+with_object-below tag value (entry ∷ entries) (below, all) =
     let later : nat_lt tag entry.0 ≡ false = grind arith in
-    rw later (ap (λ (es : Entries). entry ∷ es) (with_entry-below tag value entries all))
+    rw later (ap (λ (es : Entries). entry ∷ es) (with_object-below tag value entries all))
 
-entries_of-append : (bytes value : List ℕ) (places : List Place) (place : Place) → count_of_bytes places ≡ length bytes → place.count ≡ length value
+entries_of-append : (bytes value : List ℕ) (places : List ObjectPlace) (place : ObjectPlace) → count_of_bytes places ≡ length bytes → place.count ≡ length value
     → entries_of (bytes ++ value) (places ++ place ∷ []) ≡ entries_of bytes places ++ (place.tag.0, value) ∷ []
 entries_of-append [] value [] place filled is =
     ap (λ (all : List ℕ). entries_of all (place ∷ [])) (sym (append-nil value)) ∙ entries_of-first value [] place [] (sym is)
@@ -465,29 +465,29 @@ entries_of-append bytes value (first ∷ places) place filled is =
     rw (take-append-le first.count bytes value short, drop-append-le first.count bytes value short)
     (ap (λ (es : Entries). (first.tag.0, take first.count bytes) ∷ es) later)
 
-count_of_bytes-append : (places : List Place) (place : Place) → count_of_bytes (places ++ place ∷ []) ≡ count_of_bytes places + place.count
+count_of_bytes-append : (places : List ObjectPlace) (place : ObjectPlace) → count_of_bytes (places ++ place ∷ []) ≡ count_of_bytes places + place.count
 count_of_bytes-append [] place = omega arith
 count_of_bytes-append (first ∷ places) place = let later = count_of_bytes-append places place in omega arith
 
 -- the entries of the bytes and places as an object behind all others leaves them
-pub entries_of-behind : (bytes value new_bytes : List ℕ) (places new_places : List Place) (tag : Tag) → count_of_bytes places ≡ length bytes
+pub entries_of-behind : (bytes value new_bytes : List ℕ) (places new_places : List ObjectPlace) (tag : Tag) → count_of_bytes places ≡ length bytes
     → AllBelow tag.0 (entries_of bytes places) → new_bytes ≡ bytes ++ value → new_places ≡ places ++ record { tag = tag; count = length value } ∷ []
-    → entries_of new_bytes new_places ≡ with_entry tag.0 value (entries_of bytes places)
+    → entries_of new_bytes new_places ≡ with_object tag.0 value (entries_of bytes places)
 entries_of-behind bytes value new_bytes places new_places tag filled below is_bytes is_places =
-    rw (is_bytes, is_places) (entries_of-append bytes value places (record { tag = tag; count = length value }) filled refl ∙ with_entry-below tag.0 value (entries_of bytes places) below)
+    rw (is_bytes, is_places) (entries_of-append bytes value places (record { tag = tag; count = length value }) filled refl ∙ with_object-below tag.0 value (entries_of bytes places) below)
 
-pub filled-behind : (bytes value new_bytes : List ℕ) (places new_places : List Place) (tag : Tag) → count_of_bytes places ≡ length bytes
+pub filled-behind : (bytes value new_bytes : List ℕ) (places new_places : List ObjectPlace) (tag : Tag) → count_of_bytes places ≡ length bytes
     → new_bytes ≡ bytes ++ value → new_places ≡ places ++ record { tag = tag; count = length value } ∷ [] → count_of_bytes new_places ≡ length new_bytes
 filled-behind bytes value new_bytes places new_places tag filled is_bytes is_places =
     let count = count_of_bytes-append places (record { tag = tag; count = length value }) in
     rw (is_bytes, is_places) (omega (arith, length-append bytes value))
 
-above_last : (least : ℕ) (bytes : List ℕ) (places : List Place) (last : Place) → AllAbove least (entries_of bytes (places ++ last ∷ [])) → least < last.tag.0
+above_last : (least : ℕ) (bytes : List ℕ) (places : List ObjectPlace) (last : ObjectPlace) → AllAbove least (entries_of bytes (places ++ last ∷ [])) → least < last.tag.0
 above_last least bytes [] last all = all.0
 above_last least bytes (first ∷ places) last all = above_last least (drop first.count bytes) places last all.1
 
 -- a tag above the last one is above all
-pub below_last : (bytes : List ℕ) (places : List Place) (last : Place) (tag : ℕ) → IsRising (entries_of bytes (places ++ last ∷ [])) → last.tag.0 < tag
+pub below_last : (bytes : List ℕ) (places : List ObjectPlace) (last : ObjectPlace) (tag : ℕ) → IsRising (entries_of bytes (places ++ last ∷ [])) → last.tag.0 < tag
     → AllBelow tag (entries_of bytes (places ++ last ∷ []))
 below_last bytes [] last tag rising low = (low, tt)
 below_last bytes (first ∷ places) last tag rising low =

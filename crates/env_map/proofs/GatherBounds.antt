@@ -5,7 +5,7 @@ use Rattle.ber_tlv.specs.Tag.{names_template}
 use Rattle.ber_tlv.specs.Walked.{Walked, Done, Broken, Met}
 use Rattle.ber_tlv.specs.declared.tag.Tag.{Tag}
 use Rattle.ber_tlv.proofs.WalkBounds.{WalkShort}
-use Rattle.env_map.specs.Entries.{Entries, value_of, with_entry, size_of_values}
+use Rattle.env_map.specs.Entries.{Entries, value_of, with_object, size_of_values}
 use Rattle.env_map.specs.Put.{put_of}
 use Rattle.env_map.specs.Gathered.{Gathered, gathered, after_put}
 use Rattle.env_map.specs.declared.env.EnvFault.{EnvFault}
@@ -15,12 +15,12 @@ use Rattle.env_map.specs.declared.env.EnvFault.TheVariants.{Repeated, TooMany, T
 abbrev pub EntriesShort : ℕ → Entries → Type 0
 EntriesShort most entries = AllByRecursion (λ entry. length entry.1 ≤ most) entries
 
-with_entry-short : (most tag : ℕ) (value : List ℕ) (entries : Entries) → length value ≤ most → EntriesShort most entries → EntriesShort most (with_entry tag value entries)
-with_entry-short most tag value [] here all = (here, tt)
-with_entry-short most tag value (entry ∷ entries) here all =
-    elim (nat_lt tag entry.0) as (λ b. EntriesShort most (if b then (tag, value) ∷ entry ∷ entries else entry ∷ with_entry tag value entries)) [
+with_object-short : (most tag : ℕ) (value : List ℕ) (entries : Entries) → length value ≤ most → EntriesShort most entries → EntriesShort most (with_object tag value entries)
+with_object-short most tag value [] here all = (here, tt)
+with_object-short most tag value (entry ∷ entries) here all =
+    elim (nat_lt tag entry.0) as (λ b. EntriesShort most (if b then (tag, value) ∷ entry ∷ entries else entry ∷ with_object tag value entries)) [
       | true ↦ (here, all)
-      | false ↦ (all.0, with_entry-short most tag value entries here all.1)
+      | false ↦ (all.0, with_object-short most tag value entries here all.1)
     ]
 
 put_of-short : (most : ℕ) (tag : Tag) (value : List ℕ) (entries more : Entries) → length value ≤ most → EntriesShort most entries → put_of tag value entries ≡ Ok more → EntriesShort most more
@@ -28,12 +28,12 @@ put_of-short most tag value entries more here all put =
     go (is_some (value_of tag.0 entries)) (nat_le 512 (length entries)) (nat_lt 16384 (size_of_values entries + length value)) put
   where
     go : (repeated many long : Bool)
-        → ◌≡◌ {A = Result Entries EnvFault} (if repeated then Err (Repeated tag) else if many then Err TooMany else if long then Err TooLong else Ok (with_entry tag.0 value entries)) (Ok more)
+        → ◌≡◌ {A = Result Entries EnvFault} (if repeated then Err (Repeated tag) else if many then Err TooMany else if long then Err TooLong else Ok (with_object tag.0 value entries)) (Ok more)
         → EntriesShort most more
     go true many long e = cc
     go false true long e = cc
     go false false true e = cc
-    go false false false e = let same : with_entry tag.0 value entries ≡ more = cc e in subst (EntriesShort most) same (with_entry-short most tag.0 value entries here all)
+    go false false false e = let same : with_object tag.0 value entries ≡ more = cc e in subst (EntriesShort most) same (with_object-short most tag.0 value entries here all)
 
 after_put-short : (most : ℕ) (entries : Entries) (put : Result Entries EnvFault) (rest : Entries → Gathered) → EntriesShort most entries
     → ((more : Entries) → put ≡ Ok more → EntriesShort most (rest more).entries) → EntriesShort most (after_put entries put rest).entries

@@ -17,9 +17,9 @@ value_of tag [] = None
 value_of tag (entry ∷ entries) = (if entry.0 == tag then Some entry.1 else value_of tag entries)
 
 -- the map with one more entry, before the first greater tag
-abbrev pub with_entry : ℕ → List ℕ → Entries → Entries
-with_entry tag value [] = (tag, value) ∷ []
-with_entry tag value (entry ∷ entries) = (if nat_lt tag entry.0 then (tag, value) ∷ entry ∷ entries else entry ∷ with_entry tag value entries)
+abbrev pub with_object : ℕ → List ℕ → Entries → Entries
+with_object tag value [] = (tag, value) ∷ []
+with_object tag value (entry ∷ entries) = (if nat_lt tag entry.0 then (tag, value) ∷ entry ∷ entries else entry ∷ with_object tag value entries)
 
 -- the map with another value for this tag
 abbrev pub with_value : ℕ → List ℕ → Entries → Entries
@@ -31,9 +31,9 @@ abbrev pub size_of_values : Entries → ℕ
 size_of_values entries = sum_by (λ entry. length entry.1) entries
 
 -- the entries whose tag is above the given one, and all where none is given
-abbrev pub is_above : Option Tag → ℕ → Bool
-is_above None tag = true
-is_above (Some given) tag = nat_lt given.0 tag
+abbrev pub is_tag_above : Option Tag → ℕ → Bool
+is_tag_above None tag = true
+is_tag_above (Some given) tag = nat_lt given.0 tag
 
 abbrev pub entries_after : Option Tag → Entries → Entries
-entries_after given entries = filter (λ entry. is_above given entry.0) entries
+entries_after given entries = filter (λ entry. is_tag_above given entry.0) entries

@@ -3,7 +3,7 @@ ghost use Rattle.std.specs.List.{AllByRecursion};
 ghost use Rattle.std.specs.Option.{ForSome};
 ghost use Rattle.env_map.specs.Entries.{Entries, IsRising, value_of, entries_after, size_of_values};
 
-use crate::place::{Place, first_above, found, insert_bytes, overwrite, slot_for, start_of};
+use crate::place::{ObjectPlace, first_above, found, insert_bytes, overwrite, slot_for, start_of};
 use arrayvec::ArrayVec;
 use ber_tlv::{Tag, append};
 use std::marker::Model;
@@ -24,7 +24,7 @@ pub enum EnvFault {
 #[derive(Drop)]
 pub struct Env {
     bytes: ArrayVec<u8, 16384>,
-    places: ArrayVec<Place, 512>,
+    places: ArrayVec<ObjectPlace, 512>,
 }
 
 impl Model for Env {
@@ -32,11 +32,11 @@ impl Model for Env {
 
     ghost Value = { Entries };
 
-    ghost use Rattle.env_map.specs.Inside.{entries, IsSound};
+    ghost use Rattle.env_map.specs.Inside.{entries, IsInOrder};
 
     ghost view = { entries };
 
-    ghost invariant = { IsSound };
+    ghost invariant = { IsInOrder };
 }
 
 impl Env {
@@ -131,7 +131,7 @@ impl Env {
         let slot = slot_for(&self.places, tag);
         insert_bytes(&mut self.bytes, slot.start, value);
         let count = value.len() as u16;
-        self.places.insert(slot.index, Place { tag, count });
+        self.places.insert(slot.index, ObjectPlace { tag, count });
         Ok(())
     }
 
@@ -153,7 +153,7 @@ impl Env {
         }
         append(&mut self.bytes, value);
         let count = value.len() as u16;
-        self.places.push(Place { tag, count });
+        self.places.push(ObjectPlace { tag, count });
         Ok(())
     }
 

@@ -1,5 +1,5 @@
 ghost use Rattle.std.specs.Prelude.{◌≡◌, ◌+◌, ◌-◌, ◌≤◌, ◌++◌, length, take, drop, option_map, find};
-ghost use Rattle.env_map.specs.Entries.{value_of, is_above};
+ghost use Rattle.env_map.specs.Entries.{value_of, is_tag_above};
 ghost use Rattle.env_map.specs.Places.{entries_of, count_of_bytes};
 ghost use Rattle.env_map.specs.Places as spec;
 
@@ -8,20 +8,20 @@ use ber_tlv::{Tag, append};
 
 /// An object's tag and how many bytes its value has; the values stand one behind another.
 #[derive(Clone, Copy, Default)]
-pub(crate) struct Place {
+pub(crate) struct ObjectPlace {
     pub tag: Tag,
     pub count: u16,
 }
 
 /// Where an object goes: its index among the places, and the place of its first byte.
 #[derive(Clone, Copy)]
-pub(crate) struct Slot {
+pub(crate) struct InsertPlace {
     pub index: usize,
     pub start: usize,
 }
 
 /// The value of a tag.
-pub(crate) fn found<'a>(bytes: &'a [u8], places: &[Place], tag: Tag) -> Option<&'a [u8]>
+pub(crate) fn found<'a>(bytes: &'a [u8], places: &[ObjectPlace], tag: Tag) -> Option<&'a [u8]>
     requires { count_of_bytes places.now ≤ length bytes.now }
     ensures { option_map (λ value. value.now) result ≡ value_of tag.0 (entries_of bytes.now places.now) }
 {
@@ -39,12 +39,12 @@ pub(crate) fn found<'a>(bytes: &'a [u8], places: &[Place], tag: Tag) -> Option<&
 /// The first object whose tag is above the given one, or the first where none is given.
 pub(crate) fn first_above<'a>(
     bytes: &'a [u8],
-    places: &[Place],
+    places: &[ObjectPlace],
     given: Option<Tag>,
 ) -> Option<(Tag, &'a [u8])>
     requires { count_of_bytes places.now ≤ length bytes.now }
     ensures { option_map (λ entry. (entry.0.0, entry.1.now)) result
-        ≡ find (λ entry. is_above given entry.0) (entries_of bytes.now places.now) }
+        ≡ find (λ entry. is_tag_above given entry.0) (entries_of bytes.now places.now) }
 {
     let mut rest = bytes;
     for place in places {
@@ -58,7 +58,7 @@ pub(crate) fn first_above<'a>(
 }
 
 fn is_above(given: Option<Tag>, tag: Tag) -> bool
-    ensures { result ≡ is_above given tag.0 }
+    ensures { result ≡ is_tag_above given tag.0 }
 {
     match given {
         Some(least) => least.0 < tag.0,
@@ -67,7 +67,7 @@ fn is_above(given: Option<Tag>, tag: Tag) -> bool
 }
 
 /// Where an object with this tag goes: before the first greater tag.
-pub(crate) fn slot_for(places: &[Place], tag: Tag) -> Slot
+pub(crate) fn slot_for(places: &[ObjectPlace], tag: Tag) -> InsertPlace
     requires { count_of_bytes places.now ≤ 16384 }
     ensures index { result.index ≡ spec.index_for tag.0 places.now }
     ensures start { result.start ≡ spec.start_for tag.0 places.now }
@@ -77,18 +77,18 @@ pub(crate) fn slot_for(places: &[Place], tag: Tag) -> Slot
     let mut start = 0;
     for (index, place) in places.iter().enumerate() {
         if tag.0 < place.tag.0 {
-            return Slot { index, start };
+            return InsertPlace { index, start };
         }
         start += usize::from(place.count);
     }
-    Slot {
+    InsertPlace {
         index: places.len(),
         start,
     }
 }
 
 /// Where the value of this tag begins.
-pub(crate) fn start_of(places: &[Place], tag: Tag) -> Option<usize>
+pub(crate) fn start_of(places: &[ObjectPlace], tag: Tag) -> Option<usize>
     requires { count_of_bytes places.now ≤ 16384 }
     ensures { result ≡ spec.start_at tag.0 places.now }
 {

@@ -1,6 +1,7 @@
 pub mod Asking
 pub mod Deep
-pub mod Known
 pub mod Pins
+pub mod Rows
 pub mod Samples
 pub mod Scripts
+pub mod Unanswered

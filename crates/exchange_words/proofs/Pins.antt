@@ -1,9 +1,9 @@
 -- A plaintext PIN block, read behind its first byte.
 use Rattle.std.proofs.Common.{◌≡◌, ℕ, ◌-◌, ◌≤◌, true, List, [], ◌∷◌, ◌++◌, length, get_or, take, drop, codes, sym, ap, subst, arith}
 use Rattle.std.proofs.lemmas.List.{take_all}
-use Rattle.word_lines.specs.Pieces.{text}
-use Rattle.list_words.specs.Digits.{digits_words}
-use Rattle.list_words.specs.Plain.{or_nothing}
+use Rattle.report_lines.specs.Pieces.{text}
+use Rattle.value_words.specs.Digits.{digits_words}
+use Rattle.value_words.specs.Plain.{or_nothing}
 use Rattle.exchange_words.specs.Commands.{is_pin_block, pin_words}
 
 told_behind : (control : ℕ) (digits same : List ℕ) → same ≡ digits → is_pin_block control same ≡ true

@@ -6,11 +6,11 @@ use Rattle.apdu_core.specs.Status.{no_error}
 use Rattle.ber_tlv.specs.Direct.{sole_value}
 use Rattle.ber_tlv.specs.Left.{items_of, fault_of}
 use Rattle.object_words.specs.Objects.{plain, object_words, objects_words}
-use Rattle.word_lines.specs.Pieces.{Piece, line, text, number}
-use Rattle.lane_words.specs.Kinds.{kind_words, answered, with_kind}
-use Rattle.exchange_words.specs.Learned.{counter_in, with_counter, with_record, with_selected}
-use Rattle.lane_words.specs.Statuses.{status_line}
-use Rattle.lane_words.specs.declared.lane.LaneState.{LaneState}
+use Rattle.report_lines.specs.Pieces.{Piece, line, text, number}
+use Rattle.exchange_words.specs.Kinds.{answered_kind_words, kind_answered, with_kind}
+use Rattle.exchange_words.specs.Learned.{counter_in_body, with_counter, with_record, lane_with_selected}
+use Rattle.value_words.specs.Statuses.{status_line}
+use Rattle.exchange_words.specs.declared.lane.LaneState.{LaneState}
 
 -- the instruction of a command; 0 where it has none
 abbrev pub instruction_of : List ℕ → ℕ
@@ -36,17 +36,17 @@ is_sole (Some tag) body = is_some (sole_value tag (items_of body))
 abbrev pub has_form : List ℕ → List ℕ → Bool
 has_form command body = is_sole (answer_tag command) body
 
-abbrev pub form_words : Bool → List Piece
-form_words has = (if has then [] else line 1 ++ text (codes "not of the form of this answer"))
+abbrev pub unformed_words : Bool → List Piece
+unformed_words has = (if has then [] else line 1 ++ text (codes "not of the form of this answer"))
 
-abbrev pub whole_words : List ℕ → Bool → List Piece
-whole_words body brief = (if brief then [] else objects_words 8 (plain 1) body)
+abbrev pub body_objects_words : List ℕ → Bool → List Piece
+body_objects_words body brief = (if brief then [] else objects_words 8 (plain 1) body)
 
 -- the objects of a body, and whether they are not of the form that the command's answer has
 abbrev pub body_words : List ℕ → List ℕ → Bool → List Piece
 body_words command body brief =
     if is_some (fault_of (items_of body)) then line 1 ++ text (codes "no whole data objects")
-    else whole_words body brief ++ form_words (has_form command body)
+    else body_objects_words body brief ++ unformed_words (has_form command body)
 
 -- an object in a line of its own
 abbrev pub one_words : ℕ → List ℕ → List Piece
@@ -88,15 +88,15 @@ limits_words (Some lower) None = []
 limits_words (Some lower) (Some upper) =
     text (codes "; the limits 9F14 and 9F23 are ") ++ number lower ++ text (codes " and ") ++ number upper
 
-abbrev pub since_words : LaneState → Option ℕ → Option ℕ → List Piece
-since_words lane None counter = []
-since_words lane (Some last_online) None = []
-since_words lane (Some last_online) (Some counter) =
+abbrev pub transactions_since_words : LaneState → Option ℕ → Option ℕ → List Piece
+transactions_since_words lane None counter = []
+transactions_since_words lane (Some last_online) None = []
+transactions_since_words lane (Some last_online) (Some counter) =
     line 2 ++ number (counter - last_online) ++ text (codes " transactions since then") ++ limits_words lane.lower lane.upper
 
 -- of a counter that GET DATA gave: the distance of the two
-abbrev pub counter_words : LaneState → List ℕ → Bool → List Piece
-counter_words lane body brief = (if brief then [] else since_words lane (counter_in 0x9F13 body) lane.counter)
+abbrev pub since_online_words : LaneState → List ℕ → Bool → List Piece
+since_online_words lane body brief = (if brief then [] else transactions_since_words lane (counter_in_body 0x9F13 body) lane.counter)
 
 -- an answer to SELECT that was given before
 abbrev pub is_same : LaneState → List ℕ → List ℕ → Bool
@@ -110,7 +110,7 @@ file_of command = slice_index command 3 / 8
 -- section 10.2), and of GET DATA
 abbrev pub left_by_new : LaneState → List ℕ → List ℕ → List ℕ → LaneState
 left_by_new lane command answer body =
-    if instruction_of command == 0xA4 then with_selected lane answer body
+    if instruction_of command == 0xA4 then lane_with_selected lane answer body
     else if instruction_of command == 0xB2 then (if nat_le (file_of command) 10 then with_record lane body else lane)
     else if instruction_of command == 0xCA then with_counter lane body
     else lane
@@ -123,7 +123,7 @@ left_by_body lane command answer body =
 abbrev pub new_body : LaneState → List ℕ → List ℕ → Bool → List Piece
 new_body lane command body brief =
     told_body command body brief (format_one command body brief)
-    ++ (if instruction_of command == 0xCA then counter_words lane body brief else [])
+    ++ (if instruction_of command == 0xCA then since_online_words lane body brief else [])
 
 abbrev pub words_of_body : LaneState → List ℕ → List ℕ → List ℕ → Bool → List Piece
 words_of_body lane command answer body brief =
@@ -147,10 +147,10 @@ abbrev pub gives_cryptogram : List ℕ → ResponseData → Bool
 gives_cryptogram command response = instruction_of command == 0xAE && response.status == no_error
 
 abbrev pub kind_told : LaneState → List ℕ → ResponseData → List Piece
-kind_told lane command response = (if gives_cryptogram command response then kind_words lane (answered response.body) else [])
+kind_told lane command response = (if gives_cryptogram command response then answered_kind_words lane (kind_answered response.body) else [])
 
 abbrev pub left_by_kind : LaneState → List ℕ → ResponseData → LaneState
-left_by_kind lane command response = (if gives_cryptogram command response then with_kind lane (answered response.body) else lane)
+left_by_kind lane command response = (if gives_cryptogram command response then with_kind lane (kind_answered response.body) else lane)
 
 -- a response: its status, its body, and the kind of cryptogram that it gives
 abbrev pub words_of_response : LaneState → List ℕ → List ℕ → ResponseData → Bool → List Piece

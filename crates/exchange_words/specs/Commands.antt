@@ -2,31 +2,31 @@
 use Rattle.std.specs.Prelude.{ℕ, ◌+◌, ◌*◌, ◌/◌, ◌%◌, ◌==◌, Bool, false, ◌&&◌, nat_lt, nat_le, if◌then◌else◌, List, [], ◌∷◌, ◌++◌, length, map, codes, Option, Some, None, option_map, is_some, unwrap_or}
 use Rattle.std.specs.Option.{option_or}
 use Rattle.std.specs.Str.{bytes_eq}
-use Rattle.action_words.specs.Reasons.{reason_of}
-use Rattle.action_words.specs.Told.{reason_words}
-use Rattle.action_words.specs.declared.asking.Asking.{Asking}
-use Rattle.action_words.specs.declared.asking.Row.{Row}
+use Rattle.value_words.specs.Reasons.{reason_of}
+use Rattle.value_words.specs.ReasonWords.{reason_words}
+use Rattle.value_words.specs.declared.asking.Asking.{Asking}
+use Rattle.value_words.specs.declared.asking.Row.{Row}
 use Rattle.apdu_core.specs.Command.{CommandData, command_of}
 use Rattle.ber_tlv.specs.Direct.{sole_value}
 use Rattle.ber_tlv.specs.Left.{items_of}
 use Rattle.ber_tlv.specs.Written.{tag_bytes}
 use Rattle.emv_dict.specs.Kinds.{kind_of}
 use Rattle.emv_dict.specs.declared.ending.Kind.{Kind}
-use Rattle.explain_words.specs.Words.{word_in}
-use Rattle.explain_words.specs.declared.codes.TheConstants.{CRYPTOGRAMS}
-use Rattle.explain_words.specs.declared.names.Form.{Form}
-use Rattle.explain_words.specs.declared.names.Form.TheVariants.{Authentication}
+use Rattle.value_words.specs.Words.{word_in}
+use Rattle.value_words.specs.declared.codes.TheConstants.{CRYPTOGRAMS}
+use Rattle.value_words.specs.declared.names.Form.{Form}
+use Rattle.value_words.specs.declared.names.Form.TheVariants.{Authentication}
 use Rattle.object_words.specs.Commands.{script_command_words}
-use Rattle.list_words.specs.Digits.{digits_in, digits_words}
-use Rattle.list_words.specs.Fields.{fields_of, are_fitting, value_among}
+use Rattle.value_words.specs.Digits.{digits_in, digits_words}
+use Rattle.value_words.specs.Fields.{fields_of, are_fitting, value_among}
 use Rattle.object_words.specs.Objects.{name_of, plain, value_words}
-use Rattle.list_words.specs.Plain.{number_in, or_nothing}
+use Rattle.value_words.specs.Plain.{binary_number, or_nothing}
 use Rattle.object_words.specs.declared.style.ResultsStyle.TheVariants.{Codes}
 use Rattle.object_words.specs.declared.style.Style.{Style}
-use Rattle.word_lines.specs.Pieces.{Piece, line, text, number, hex, word_or}
-use Rattle.exchange_words.specs.Fields.{fields_words, beside_words}
-use Rattle.lane_words.specs.Lanes.{kept}
-use Rattle.lane_words.specs.declared.lane.LaneState.{LaneState}
+use Rattle.report_lines.specs.Pieces.{Piece, line, text, number, hex, word_or}
+use Rattle.object_words.specs.Fields.{fields_words, new_fields_words}
+use Rattle.exchange_words.specs.Lanes.{kept_if_short}
+use Rattle.exchange_words.specs.declared.lane.LaneState.{LaneState}
 
 -- SELECT (EMV 4.3 Book 1 section 11.3)
 abbrev pub selected_name : List ℕ → List Piece
@@ -38,14 +38,14 @@ select_words command =
     line 1 ++ text (codes "SELECT ") ++ selected_name command.body ++ (if command.p2 == 2 then text (codes ", next occurrence") else [])
 
 -- GET PROCESSING OPTIONS, and the fields of its data
-abbrev pub options_data : List ℕ → Bool → Option (List ℕ) → List Piece
-options_data pdol brief None = []
-options_data pdol brief (Some bytes) =
+abbrev pub options_data_words : List ℕ → Bool → Option (List ℕ) → List Piece
+options_data_words pdol brief None = []
+options_data_words pdol brief (Some bytes) =
     if length bytes == 0 then text (codes ": the card wants no data")
     else if brief then [] else fields_words (plain 2) pdol bytes
 
 abbrev pub options_words : List ℕ → List ℕ → Bool → List Piece
-options_words pdol body brief = line 1 ++ text (codes "GET PROCESSING OPTIONS") ++ options_data pdol brief (sole_value 0x83 (items_of body))
+options_words pdol body brief = line 1 ++ text (codes "GET PROCESSING OPTIONS") ++ options_data_words pdol brief (sole_value 0x83 (items_of body))
 
 -- READ RECORD
 abbrev pub record_words : CommandData → List Piece
@@ -64,16 +64,16 @@ get_data_words command =
 
 -- a plaintext PIN block: its four to twelve digits, and their number in the low half byte before them (EMV 4.3 Book 3
 -- section 6.5.12)
-abbrev pub has_digits : Option ℕ → ℕ → Bool
-has_digits None count = false
-has_digits (Some digits) count = digits == count
+abbrev pub has_pin_digits : Option ℕ → ℕ → Bool
+has_pin_digits None count = false
+has_pin_digits (Some digits) count = digits == count
 
 abbrev pub is_pin_length : ℕ → Bool
 is_pin_length count = nat_le 4 count && nat_le count 12
 
 abbrev pub is_pin_block : ℕ → List ℕ → Bool
 is_pin_block control digits =
-    control / 16 == 2 && (is_pin_length (control % 16) && (length digits == 7 && has_digits (digits_in digits) (control % 16)))
+    control / 16 == 2 && (is_pin_length (control % 16) && (length digits == 7 && has_pin_digits (digits_in digits) (control % 16)))
 
 abbrev pub pin_words : List ℕ → List Piece
 pin_words [] = []
@@ -90,12 +90,12 @@ external_words body brief =
     line 1 ++ text (codes "EXTERNAL AUTHENTICATE") ++ (if brief then [] else text (codes ": ") ++ value_words Authentication (plain 1) body)
 
 -- a command of an issuer's script
-abbrev pub script_words : Option (List Piece) → List Piece
-script_words None = []
-script_words (Some words) = words ++ text (codes " (issuer script)")
+abbrev pub issuer_script_words : Option (List Piece) → List Piece
+issuer_script_words None = []
+issuer_script_words (Some words) = words ++ text (codes " (issuer script)")
 
-abbrev pub other_words : List ℕ → List Piece
-other_words bytes = script_words (script_command_words bytes)
+abbrev pub other_command_words : List ℕ → List Piece
+other_command_words bytes = issuer_script_words (script_command_words bytes)
 
 -- the fields of the data of GENERATE AC: those of the second beside those of the first
 abbrev pub question_style : LaneState → Option Row → Style
@@ -104,11 +104,11 @@ question_style lane row = record { level = 2; results = Codes (record { card = l
 abbrev pub question_fields : LaneState → List ℕ → Option Row → List Piece
 question_fields lane bytes row =
     if lane.cryptograms == 0 then fields_words (question_style lane row) lane.cdol1.items bytes
-    else beside_words (question_style lane row) lane.cdol2.items bytes (fields_of lane.cdol1.items lane.first.items) (is_some lane.code)
+    else new_fields_words (question_style lane row) lane.cdol2.items bytes (fields_of lane.cdol1.items lane.first.items) (is_some lane.code)
 
 -- the terminal verification results in the data, where the list has them and wants just these data
 abbrev pub sent_results : List ℕ → List ℕ → Option ℕ
-sent_results list bytes = (if are_fitting list bytes then option_map number_in (value_among 0x95 5 (fields_of list bytes)) else None)
+sent_results list bytes = (if are_fitting list bytes then option_map binary_number (value_among 0x95 5 (fields_of list bytes)) else None)
 
 abbrev pub question_results : LaneState → List ℕ → Option ℕ
 question_results lane bytes = (if lane.cryptograms == 0 then sent_results lane.cdol1.items bytes else sent_results lane.cdol2.items bytes)
@@ -117,7 +117,7 @@ question_results lane bytes = (if lane.cryptograms == 0 then sent_results lane.c
 abbrev pub with_question : LaneState → List ℕ → LaneState
 with_question lane bytes = record lane {
   results = option_or (question_results lane bytes) lane.results;
-  first = (if lane.cryptograms == 0 then record { items = kept 255 bytes } else lane.first);
+  first = (if lane.cryptograms == 0 then record { items = kept_if_short 255 bytes } else lane.first);
 }
 
 -- what is known as this kind is asked for
@@ -152,14 +152,14 @@ abbrev pub question_head : LaneState → List Piece
 question_head lane =
     line 1 ++ (if lane.cryptograms == 0 then text (codes "GENERATE AC, the first: asks for ") else text (codes "GENERATE AC, the second: asks for "))
 
-abbrev pub asked_words : LaneState → CommandData → Option Row → Bool → List Piece
-asked_words lane command row brief =
+abbrev pub cryptogram_question_words : LaneState → CommandData → Option Row → Bool → List Piece
+cryptogram_question_words lane command row brief =
     question_head lane ++ word_or [] (word_in (map (λ w. (w.0, w.1.now)) CRYPTOGRAMS) (command.p1 / 64 * 64))
     ++ (if brief then [] else question_fields lane command.body row)
 
 abbrev pub question_words : LaneState → CommandData → Option Row → Bool → List Piece
 question_words lane command row brief =
-    asked_words lane command row brief ++ because_words (with_question lane command.body) row (kind_of command.p1)
+    cryptogram_question_words lane command row brief ++ because_words (with_question lane command.body) row (kind_of command.p1)
 
 -- a command of the class 00, and one of the class 80
 abbrev pub common_words : CommandData → Bool → List Piece
@@ -183,25 +183,25 @@ words_of lane bytes None row brief = []
 words_of lane bytes (Some command) row brief =
     if command.class == 0x00 then common_words command brief
     else if command.class == 0x80 then own_words lane command row brief
-    else other_words bytes
+    else other_command_words bytes
 
 unfoldable pub words_of_command : LaneState → List ℕ → Option Row → Bool → List Piece
 words_of_command lane bytes row brief = words_of lane bytes (command_of bytes) row brief
 
 -- what a command leaves: itself; SELECT its name, GENERATE AC its data and why it was sent
 abbrev pub with_name : LaneState → CommandData → LaneState
-with_name lane command = (if command.ins == 0xA4 then record lane { name = record { items = kept 16 command.body } } else lane)
+with_name lane command = (if command.ins == 0xA4 then record lane { name = record { items = kept_if_short 16 command.body } } else lane)
 
 abbrev pub left_own : LaneState → CommandData → Option Row → LaneState
 left_own lane command row =
     if command.ins == 0xAE then with_reason (with_question lane command.body) row (kind_of command.p1) else lane
 
-abbrev pub left_of : LaneState → Option CommandData → Option Row → LaneState
-left_of lane None row = lane
-left_of lane (Some command) row =
+abbrev pub lane_behind_command : LaneState → Option CommandData → Option Row → LaneState
+lane_behind_command lane None row = lane
+lane_behind_command lane (Some command) row =
     if command.class == 0x00 then with_name lane command
     else if command.class == 0x80 then left_own lane command row
     else lane
 
 unfoldable pub left_by_command : LaneState → List ℕ → Option Row → LaneState
-left_by_command lane bytes row = left_of (record lane { command = record { items = kept 261 bytes } }) (command_of bytes) row
+left_by_command lane bytes row = lane_behind_command (record lane { command = record { items = kept_if_short 261 bytes } }) (command_of bytes) row

@@ -2,13 +2,15 @@
 ghost use Rattle.std.specs.Prelude.{◌≡◌};
 ghost use Rattle.apdu_core.specs.Seen.{seen_response};
 ghost use Rattle.exchange_words.specs.Answers as words;
-ghost use Rattle.word_lines.specs.Pieces.{Tells};
+ghost use Rattle.report_lines.specs.Pieces.{Tells};
 
 use crate::body::{instruction_of, tell_and_learn};
+use crate::kind::tell_kind;
+use crate::lane::LaneState;
 use apdu_core::status::NO_ERROR;
 use apdu_core::{Response, read_response};
-use lane_words::{LaneState, tell_kind, tell_status_line};
-use word_lines::WordLines;
+use report_lines::WordLines;
+use value_words::tell_status_line;
 
 /// Tells the status of a response: one that is not 9000, or that no body stands before.
 fn tell_if_status(out: &mut WordLines, instruction: u8, response: &Response<'_>)

@@ -1,14 +1,14 @@
 //! The bodies of answers in words (EMV 4.3 Book 3 section 6.5), and what they leave.
 ghost use Rattle.std.specs.Prelude.{◌≡◌, Some, is_some, option_map};
 ghost use Rattle.exchange_words.specs.Answers as words;
-ghost use Rattle.list_words.specs.Plain.{or_nothing};
-ghost use Rattle.word_lines.specs.Pieces.{Tells};
+ghost use Rattle.value_words.specs.Plain.{or_nothing};
+ghost use Rattle.report_lines.specs.Pieces.{Tells};
 
+use crate::lane::LaneState;
 use crate::learn::{counter_in, learn_counter, learn_record, learn_selected};
 use ber_tlv::{Tag, first_fault, sole_value};
-use lane_words::LaneState;
 use object_words::{Object, Style, tell_object, tell_objects};
-use word_lines::WordLines;
+use report_lines::WordLines;
 
 /// How deep objects within objects are told.
 const DEPTH: u8 = 8;
@@ -71,7 +71,7 @@ fn has_form(command: &[u8], body: &[u8]) -> bool
 
 /// Tells that a body is not of the form that the command's answer has.
 fn tell_form(out: &mut WordLines, has_form: bool)
-    ensures { Tells out.old out.new (words.form_words has_form) }
+    ensures { Tells out.old out.new (words.unformed_words has_form) }
 {
     if !has_form {
         out.line(1);
@@ -81,7 +81,7 @@ fn tell_form(out: &mut WordLines, has_form: bool)
 
 /// Tells the objects of a body.
 fn tell_whole(out: &mut WordLines, body: &[u8], brief: bool)
-    ensures { Tells out.old out.new (words.whole_words body.now brief) }
+    ensures { Tells out.old out.new (words.body_objects_words body.now brief) }
 {
     if !brief {
         tell_objects(out, body, &Style::plain(1), DEPTH);
@@ -199,7 +199,7 @@ fn tell_limits(out: &mut WordLines, lower: Option<u64>, upper: Option<u64>)
 /// Tells how many transactions came behind the last one online, where both counters are known, and the
 /// limits.
 fn tell_since(out: &mut WordLines, lane: &LaneState, last_online: Option<u64>, counter: Option<u64>)
-    ensures { Tells out.old out.new (words.since_words lane.now last_online counter) }
+    ensures { Tells out.old out.new (words.transactions_since_words lane.now last_online counter) }
 {
     if let Some(last_online) = last_online {
         if let Some(counter) = counter {
@@ -213,7 +213,7 @@ fn tell_since(out: &mut WordLines, lane: &LaneState, last_online: Option<u64>, c
 
 /// Tells the distance of a counter that GET DATA gave to the one before.
 fn tell_counter(out: &mut WordLines, lane: &LaneState, body: &[u8], brief: bool)
-    ensures { Tells out.old out.new (words.counter_words lane.now body.now brief) }
+    ensures { Tells out.old out.new (words.since_online_words lane.now body.now brief) }
 {
     if !brief {
         tell_since(out, lane, counter_in(body, 0x9f13), lane.counter);

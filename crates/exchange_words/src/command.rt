@@ -3,21 +3,18 @@ ghost use Rattle.std.specs.Prelude.{◌≡◌, ◌==◌, if◌then◌else◌, op
 ghost use Rattle.apdu_core.specs.Command.{command_of};
 ghost use Rattle.apdu_core.specs.Seen.{seen_command};
 ghost use Rattle.object_words.specs.Objects.{name_of as name_in};
-ghost use Rattle.word_lines.specs.Pieces as piece;
-ghost use Rattle.word_lines.specs.Pieces.{Tells};
+ghost use Rattle.report_lines.specs.Pieces as piece;
+ghost use Rattle.report_lines.specs.Pieces.{Tells};
 ghost use Rattle.exchange_words.specs.Commands as words;
-ghost use Rattle.lane_words.specs.Lanes as spec;
+ghost use Rattle.exchange_words.specs.Lanes as spec;
 
 use crate::cryptogram::tell_question;
-use crate::fields::tell_fields;
-use action_words::Row;
+use crate::lane::{LaneState, keep};
 use apdu_core::{Command, read_command};
 use ber_tlv::{Tag, sole_value, tag_bytes};
-use explain_words::{Form, name_of};
-use lane_words::{LaneState, keep};
-use list_words::{Fields, digits_in, tell_digits};
-use object_words::{Style, tell_script_command, tell_value};
-use word_lines::WordLines;
+use object_words::{Style, tell_fields, tell_script_command, tell_value};
+use report_lines::WordLines;
+use value_words::{Fields, Form, Row, digits_in, name_of, tell_digits};
 
 /// Tells the name of SELECT.
 fn tell_selected_name(out: &mut WordLines, name: &[u8])
@@ -45,7 +42,7 @@ fn tell_select(out: &mut WordLines, command: &Command<'_>)
 
 /// Tells the fields of the data of GET PROCESSING OPTIONS.
 fn tell_options_data(out: &mut WordLines, pdol: &[u8], brief: bool, sent: Option<&[u8]>)
-    ensures { Tells out.old out.new (words.options_data pdol.now brief (option_map (λ bytes. bytes.now) sent.entry)) }
+    ensures { Tells out.old out.new (words.options_data_words pdol.now brief (option_map (λ bytes. bytes.now) sent.entry)) }
 {
     if let Some(bytes) = sent {
         if bytes.is_empty() {
@@ -161,7 +158,7 @@ fn tell_external(out: &mut WordLines, body: &[u8], brief: bool)
 
 /// Tells another command, where it is one of an issuer's script.
 fn tell_other(out: &mut WordLines, bytes: &[u8])
-    ensures { Tells out.old out.new (words.other_words bytes.now) }
+    ensures { Tells out.old out.new (words.other_command_words bytes.now) }
 {
     if tell_script_command(out, bytes) {
         out.text(b" (issuer script)");
@@ -219,7 +216,7 @@ fn tell_known(
     brief: bool,
 )
     ensures words { Tells out.old out.new (words.words_of_command lane.old bytes.now row brief) }
-    ensures left { lane.new ≡ words.left_of lane.old (command_of bytes.now) row }
+    ensures left { lane.new ≡ words.lane_behind_command lane.old (command_of bytes.now) row }
 {
     match read_command(bytes) {
         Ok(command) => match command.class {

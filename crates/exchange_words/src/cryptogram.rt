@@ -2,21 +2,20 @@
 ghost use Rattle.std.specs.Prelude.{◌≡◌, [], map, ◌*◌, ◌/◌, Some};
 ghost use Rattle.apdu_core.specs.Seen.{seen_command};
 ghost use Rattle.emv_dict.specs.Kinds.{kind_of};
-ghost use Rattle.explain_words.specs.Words.{word_in};
-ghost use Rattle.explain_words.specs.declared.codes.TheConstants as table;
-ghost use Rattle.word_lines.specs.Pieces.{Tells, word_or};
+ghost use Rattle.value_words.specs.Words.{word_in};
+ghost use Rattle.value_words.specs.declared.codes.TheConstants as table;
+ghost use Rattle.report_lines.specs.Pieces.{Tells, word_or};
 ghost use Rattle.exchange_words.specs.Commands as words;
 
-use crate::fields::{tell_fields, tell_fields_beside};
-use action_words::{Asking, Row, reason_of, tell_reason};
+use crate::lane::{LaneState, keep};
 use apdu_core::Command;
 use ber_tlv::Tag;
 use emv_dict::Kind;
-use explain_words::{CRYPTOGRAMS, word_of};
-use lane_words::{LaneState, keep};
-use list_words::{Fields, fits, number_in, value_in};
-use object_words::{KnownCodes, ResultsStyle, Style};
-use word_lines::WordLines;
+use object_words::{KnownCodes, ResultsStyle, Style, tell_fields, tell_fields_beside};
+use report_lines::WordLines;
+use value_words::{
+    Asking, CRYPTOGRAMS, Fields, Row, fits, number_in, reason_of, tell_reason, value_in, word_of,
+};
 
 /// The terminal verification results in the data, where the list has them and wants just these data.
 fn sent_results(list: &[u8], sent: &[u8]) -> Option<u64>
@@ -146,7 +145,7 @@ fn tell_asked(
     row: Option<Row>,
     brief: bool,
 )
-    ensures { Tells out.old out.new (words.asked_words lane.now (seen_command command.now) row brief) }
+    ensures { Tells out.old out.new (words.cryptogram_question_words lane.now (seen_command command.now) row brief) }
 {
     tell_head(out, lane);
     tell_wanted(out, command.p1);

@@ -2,11 +2,11 @@
 ghost use Rattle.std.specs.Prelude.{◌≡◌, option_map};
 ghost use Rattle.exchange_words.specs.Learned as spec;
 
+use crate::lane::{LaneState, keep};
 use arrayvec::ArrayVec;
 use ber_tlv::{Cursor, Tag, is_constructed, sole_value};
-use lane_words::{LaneState, keep};
-use list_words::number_in;
 use object_words::next_item;
+use value_words::number_in;
 
 /// How deep objects within objects are looked for.
 const DEPTH: u8 = 8;
@@ -31,7 +31,7 @@ pub(crate) fn find_deep(bytes: &[u8], tag: Tag, more: u8) -> Option<&[u8]>
 
 /// The number of a value of this length, else what was known of it.
 fn number_of(value: Option<&[u8]>, count: usize, known: Option<u64>) -> Option<u64>
-    ensures { result ≡ spec.number_of count (option_map (λ value. value.now) value.entry) known }
+    ensures { result ≡ spec.number_if_sized count (option_map (λ value. value.now) value.entry) known }
 {
     match value {
         Some(value) => {
@@ -47,7 +47,7 @@ fn number_of(value: Option<&[u8]>, count: usize, known: Option<u64>) -> Option<u
 
 /// The number of an object of this tag and this length, else what was known of it.
 fn number_or(record: &[u8], tag: u32, count: usize, known: Option<u64>) -> Option<u64>
-    ensures { result ≡ spec.number_or record.now tag count known }
+    ensures { result ≡ spec.number_found_or record.now tag count known }
 {
     number_of(find_deep(record, Tag(tag), DEPTH), count, known)
 }
@@ -96,7 +96,7 @@ fn find_here(bytes: Option<&[u8]>, tag: Tag) -> Option<&[u8]>
 /// The list 9F38 of an answer to SELECT: it stands in the template A5 of the template 6F (EMV 4.3 Book 1 section
 /// 11.3.4).
 fn list_in(body: &[u8]) -> Option<&[u8]>
-    ensures { option_map (λ list. list.now) result ≡ spec.list_in body.now }
+    ensures { option_map (λ list. list.now) result ≡ spec.pdol_in body.now }
 {
     let proprietary = find_here(find_here(Some(body), Tag(0x6f)), Tag(0xa5));
     find_here(proprietary, Tag(0x9f38))
@@ -104,7 +104,7 @@ fn list_in(body: &[u8]) -> Option<&[u8]>
 
 /// Keeps an answer to SELECT, and its list.
 pub(crate) fn learn_selected(lane: &mut LaneState, answer: &[u8], body: &[u8])
-    ensures left { lane.new ≡ spec.with_selected lane.old answer.now body.now }
+    ensures left { lane.new ≡ spec.lane_with_selected lane.old answer.now body.now }
 {
     keep(&mut lane.selected, answer);
     lane.pdol.clear();
@@ -113,7 +113,7 @@ pub(crate) fn learn_selected(lane: &mut LaneState, answer: &[u8], body: &[u8])
 
 /// The number of a value of two bytes.
 fn counter_of(value: Option<&[u8]>) -> Option<u64>
-    ensures { result ≡ spec.counter_of (option_map (λ value. value.now) value.entry) }
+    ensures { result ≡ spec.counter_of_value (option_map (λ value. value.now) value.entry) }
 {
     match value {
         Some(value) => {
@@ -129,7 +129,7 @@ fn counter_of(value: Option<&[u8]>) -> Option<u64>
 
 /// The number that GET DATA gave for a tag.
 pub(crate) fn counter_in(body: &[u8], tag: u32) -> Option<u64>
-    ensures { result ≡ spec.counter_in tag body.now }
+    ensures { result ≡ spec.counter_in_body tag body.now }
 {
     counter_of(sole_value(body, Tag(tag)))
 }

@@ -1,14 +1,23 @@
-//! What a terminal and a card say to each other, in words: commands and answers, and what they leave for
-//! the lines behind them.
+//! What a terminal and a card say to each other, in words: commands and answers, the kind of cryptogram that is
+//! answered, a command without an answer, and what is kept of a lane for the lines behind. And what is known
+//! of a lane's terminal beside the report.
 #![tactic(auto)]
 
 pub mod answer;
 pub mod body;
 pub mod command;
 pub mod cryptogram;
-pub mod fields;
+pub mod kind;
+pub mod lane;
 pub mod learn;
+pub mod phrases;
+pub mod terminal;
+pub mod torn;
 
 pub use answer::tell_answer;
 pub use command::tell_command;
 pub use cryptogram::first_fields;
+pub use kind::{kind_name, tell_kind};
+pub use lane::{LaneState, keep};
+pub use terminal::{Terminal, row_for};
+pub use torn::tell_torn;

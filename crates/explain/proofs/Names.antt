@@ -6,8 +6,8 @@ use Rattle.std.proofs.lemmas.Bool.Decides.{nat_tests}
 use Rattle.hex.proofs.HexLemmas.{decode_of-ok, decode_sized-twice}
 use Rattle.hex.specs.Hex.{decode_of, decode_sized}
 use Rattle.hex.specs.declared.error.FromHexError.{FromHexError}
-use Rattle.list_words.specs.Plain.{number_in}
-use Rattle.explain.specs.Grammar.{bytes_of, name_of, code_of}
+use Rattle.value_words.specs.Plain.{binary_number}
+use Rattle.explain.specs.Grammar.{bytes_in_hex, app_name_of, action_code}
 
 pub is_refused : (d : Result (List ℕ) FromHexError) (answer : Result Unit FromHexError) (fault : FromHexError) (out : List ℕ) → answer ≡ Err fault
     → MatchResult d (λ bytes. (answer ≡ Ok tt) × (out ≡ bytes)) (λ e. answer ≡ Err e) → (e : FromHexError) × (d ≡ Err e)
@@ -16,7 +16,7 @@ is_refused (Err e) answer fault out is told = (e, refl)
 
 -- where there is room for what so many digits give, up to 16 bytes
 pub none_read : (text : List ℕ) (room : ℕ) (fault : FromHexError) → (length text / 2 ≤ 16 → room ≡ length text / 2) → decode_sized text room ≡ Err fault
-    → IfSome (bytes_of text) (λ bytes. 16 < length bytes)
+    → IfSome (bytes_in_hex text) (λ bytes. 16 < length bytes)
 none_read text room fault fits fails = by (decode_of text) refl
   where
     has_room : (bytes : List ℕ) → decode_of text ≡ Ok bytes → length bytes ≤ 16 → ⊥
@@ -25,7 +25,7 @@ none_read text room fault fits fails = by (decode_of text) refl
         let whole : length text ≡ 2 * room = omega (arith, twice, fits (omega (arith, twice))) in
         cc (sym fails ∙ decode_sized-twice text room whole ∙ is)
 
-    by : (found : Result (List ℕ) FromHexError) → decode_of text ≡ found → IfSome (bytes_of text) (λ bytes. 16 < length bytes)
+    by : (found : Result (List ℕ) FromHexError) → decode_of text ≡ found → IfSome (bytes_in_hex text) (λ bytes. 16 < length bytes)
     by (Err other) is = rw is tt
     by (Ok bytes) is = rw is (omega (arith, has_room bytes is))
 
@@ -37,34 +37,34 @@ chosen test value holds = rw holds refl
 refused : {A : Type 0} (test : Bool) (value : A) → test ≡ false → (if test then Some value else None) ≡ None
 refused test value fails = rw fails refl
 
-pub name_read : (text bytes : List ℕ) → bytes_of text ≡ Some bytes → 5 ≤ length bytes → length bytes ≤ 16 → name_of text ≡ Some bytes
-unfolding name_of
+pub name_read : (text bytes : List ℕ) → bytes_in_hex text ≡ Some bytes → 5 ≤ length bytes → length bytes ≤ 16 → app_name_of text ≡ Some bytes
+unfolding app_name_of
 name_read text bytes is many few = rw is (chosen (nat_le 5 (length bytes) && nat_le (length bytes) 16) bytes (grind (arith, nat_tests)))
 
-pub name_short : (text bytes : List ℕ) → bytes_of text ≡ Some bytes → length bytes < 5 → name_of text ≡ None
-unfolding name_of
+pub name_short : (text bytes : List ℕ) → bytes_in_hex text ≡ Some bytes → length bytes < 5 → app_name_of text ≡ None
+unfolding app_name_of
 name_short text bytes is few = rw is (refused (nat_le 5 (length bytes) && nat_le (length bytes) 16) bytes (grind (arith, nat_tests)))
 
-pub no_name : (text : List ℕ) → IfSome (bytes_of text) (λ bytes. 16 < length bytes) → name_of text ≡ None
-unfolding name_of
-no_name text many = by (bytes_of text) refl many
+pub no_name : (text : List ℕ) → IfSome (bytes_in_hex text) (λ bytes. 16 < length bytes) → app_name_of text ≡ None
+unfolding app_name_of
+no_name text many = by (bytes_in_hex text) refl many
   where
-    by : (found : Option (List ℕ)) → bytes_of text ≡ found → IfSome found (λ bytes. 16 < length bytes) → name_of text ≡ None
+    by : (found : Option (List ℕ)) → bytes_in_hex text ≡ found → IfSome found (λ bytes. 16 < length bytes) → app_name_of text ≡ None
     by None is many = rw is refl
     by (Some bytes) is many = rw is (refused (nat_le 5 (length bytes) && nat_le (length bytes) 16) bytes (grind (arith, nat_tests)))
 
-pub code_read : (text bytes : List ℕ) → bytes_of text ≡ Some bytes → length bytes ≡ 5 → code_of text ≡ Some (number_in bytes)
-unfolding code_of
-code_read text bytes is five = rw is (chosen (length bytes == 5) (number_in bytes) (grind (arith, nat_tests)))
+pub code_read : (text bytes : List ℕ) → bytes_in_hex text ≡ Some bytes → length bytes ≡ 5 → action_code text ≡ Some (binary_number bytes)
+unfolding action_code
+code_read text bytes is five = rw is (chosen (length bytes == 5) (binary_number bytes) (grind (arith, nat_tests)))
 
-pub code_other : (text bytes : List ℕ) → bytes_of text ≡ Some bytes → (length bytes == 5) ≡ false → code_of text ≡ None
-unfolding code_of
-code_other text bytes is other = rw is (refused (length bytes == 5) (number_in bytes) other)
+pub code_other : (text bytes : List ℕ) → bytes_in_hex text ≡ Some bytes → (length bytes == 5) ≡ false → action_code text ≡ None
+unfolding action_code
+code_other text bytes is other = rw is (refused (length bytes == 5) (binary_number bytes) other)
 
-pub no_code : (text : List ℕ) → IfSome (bytes_of text) (λ bytes. 16 < length bytes) → code_of text ≡ None
-unfolding code_of
-no_code text many = by (bytes_of text) refl many
+pub no_code : (text : List ℕ) → IfSome (bytes_in_hex text) (λ bytes. 16 < length bytes) → action_code text ≡ None
+unfolding action_code
+no_code text many = by (bytes_in_hex text) refl many
   where
-    by : (found : Option (List ℕ)) → bytes_of text ≡ found → IfSome found (λ bytes. 16 < length bytes) → code_of text ≡ None
+    by : (found : Option (List ℕ)) → bytes_in_hex text ≡ found → IfSome found (λ bytes. 16 < length bytes) → action_code text ≡ None
     by None is many = rw is refl
-    by (Some bytes) is many = rw is (refused (length bytes == 5) (number_in bytes) (grind (arith, nat_tests)))
+    by (Some bytes) is many = rw is (refused (length bytes == 5) (binary_number bytes) (grind (arith, nat_tests)))

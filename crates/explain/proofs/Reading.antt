@@ -4,9 +4,9 @@ use Rattle.std.proofs.lemmas.List.{append-nil, take-append-drop, length-append}
 use Rattle.std.specs.declared.option.Option.{Option}
 use Rattle.std.specs.Io.KnownBytes.{Consumes, Keeps, IsAtEnd}
 use Rattle.narrator.specs.State.{StateData, start}
-use Rattle.explain.specs.Course.{Stand, SoFar, Stopped, Ended}
+use Rattle.explain.specs.ReportSoFar.{Stand, IsReportSoFar, TellingWasStopped, Ended}
 use Rattle.explain.specs.Reading.{ReadAll, ReadSome}
-use Rattle.explain.specs.Told.{Way, Explained, BrokenOff, most_read}
+use Rattle.explain.specs.ToldLines.{Way, Explained, BrokenOff, most_read}
 use Rattle.explain.proofs.Coming.{beginning, stopped_still, so_far_start}
 
 pub Consumes-none : (known : Option (List ℕ)) → Consumes known known []
@@ -30,16 +30,16 @@ pub record IsReading (all : Way) (pending : List ℕ) (long : Stand) (left left_
   pub input : List ℕ
   pub read : Consumes left left_after input
   pub many : most_read ≤ length input + room
-  pub so_far : SoFar all pending long input first held
+  pub so_far : IsReportSoFar all pending long input first held
 
-pub reading_start : (all : Way) (long : Stand) (p : List ℕ) (left first held : Option (List ℕ)) → SoFar all p long [] first held
+pub reading_start : (all : Way) (long : Stand) (p : List ℕ) (left first held : Option (List ℕ)) → IsReportSoFar all p long [] first held
     → IsReading all p long left left first held most_read
 reading_start all long p left first held s = record { input = []; read = Consumes-none left; many = omega arith; so_far = s }
 
 -- a chunk has come
 pub reading_more : (all : Way) (long : Stand) (all' : Way) (long' : Stand) (p p' chunk : List ℕ) (count room : ℕ) (left mid new first held held' : Option (List ℕ)) → length chunk ≡ count
     → IsReading all p long left mid first held room → Consumes mid new chunk
-    → ((seen : List ℕ) (f : Option (List ℕ)) → SoFar all p long seen f held → SoFar all' p' long' (seen ++ chunk) f held')
+    → ((seen : List ℕ) (f : Option (List ℕ)) → IsReportSoFar all p long seen f held → IsReportSoFar all' p' long' (seen ++ chunk) f held')
     → IsReading all' p' long' left new first held' (room - count)
 reading_more all long all' long' p p' chunk count room left mid new first held held' size r more on = record {
   input = r.input ++ chunk;
@@ -81,7 +81,7 @@ reading_broken all long p room left mid new first held r kept = record {
 -- the lines stopped within a chunk
 pub reading_stopped : (all : Way) (long : Stand) (p chunk : List ℕ) (room : ℕ) (left mid new first held held' : Option (List ℕ)) → IsReading all p long left mid first held room
     → Consumes mid new chunk
-    → ((seen : List ℕ) (f : Option (List ℕ)) → SoFar all p long seen f held → (taken : ℕ) × Stopped all (seen ++ take taken chunk) f held')
+    → ((seen : List ℕ) (f : Option (List ℕ)) → IsReportSoFar all p long seen f held → (taken : ℕ) × TellingWasStopped all (seen ++ take taken chunk) f held')
     → ReadSome all left new first held'
 reading_stopped all long p chunk room left mid new first held held' r more stops =
     let s = stops r.input first r.so_far in record {
@@ -95,7 +95,7 @@ reading_stopped all long p chunk room left mid new first held held' r more stops
 
 -- all was read, and what stands behind the last newline was handed on, or a front of it
 pub explained : (all : Way) (long : Stand) (p : List ℕ) (left new first held held' : Option (List ℕ)) → ReadAll all p long left new first held
-    → ((seen : List ℕ) (f : Option (List ℕ)) → SoFar all p long seen f held → Ended all seen f held') → Explained all left new first held'
+    → ((seen : List ℕ) (f : Option (List ℕ)) → IsReportSoFar all p long seen f held → Ended all seen f held') → Explained all left new first held'
 explained all long p left new first held held' r on =
     let e = on r.input first r.so_far in record {
       input = r.input;
@@ -107,7 +107,7 @@ explained all long p left new first held held' r on =
     }
 
 pub explained_front : (all : Way) (long : Stand) (p : List ℕ) (left new first held held' : Option (List ℕ)) → ReadAll all p long left new first held
-    → ((seen : List ℕ) (f : Option (List ℕ)) → SoFar all p long seen f held → Stopped all seen f held') → BrokenOff all left new first held'
+    → ((seen : List ℕ) (f : Option (List ℕ)) → IsReportSoFar all p long seen f held → TellingWasStopped all seen f held') → BrokenOff all left new first held'
 explained_front all long p left new first held held' r on =
     let e = on r.input first r.so_far in record {
       input = r.input;
@@ -141,8 +141,8 @@ broken_start all left first = let s = stopped_still all beginning [] [] first fi
 
 -- a teller before the first byte
 pub so_far_begin : (all : Way) (long : Bool) (state : StateData) (p : List ℕ) (first : Option (List ℕ)) → p ≡ [] → long ≡ false → state ≡ start
-    → SoFar all p (record { long = long; state = state }) [] first first
+    → IsReportSoFar all p (record { long = long; state = state }) [] first first
 so_far_begin all long state p first none short from =
-    subst (λ (t : List ℕ). SoFar all t (record { long = long; state = state }) [] first first) (sym none)
-    (subst (λ (l : Bool). SoFar all [] (record { long = l; state = state }) [] first first) (sym short)
-    (subst (λ (s : StateData). SoFar all [] (record { long = false; state = s }) [] first first) (sym from) (so_far_start all first)))
+    subst (λ (t : List ℕ). IsReportSoFar all t (record { long = long; state = state }) [] first first) (sym none)
+    (subst (λ (l : Bool). IsReportSoFar all [] (record { long = l; state = state }) [] first first) (sym short)
+    (subst (λ (s : StateData). IsReportSoFar all [] (record { long = false; state = s }) [] first first) (sym from) (so_far_start all first)))

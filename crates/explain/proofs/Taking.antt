@@ -2,13 +2,13 @@
 use Rattle.std.proofs.Common.{◌≡◌, ℕ, ◌≤◌, ◌<◌, Bool, true, false, List, [], ◌∷◌, ◌++◌, length, map, drop, get_or, Option, Some, None, refl, sym, ap, ◌∙◌, subst, append_assoc, append-nil, arith}
 use Rattle.std.specs.List.{flat_map}
 use Rattle.std.proofs.lemmas.Option.{same_Some}
-use Rattle.lane_words.specs.declared.terminal.Terminal.{Terminal}
+use Rattle.exchange_words.specs.declared.terminal.Terminal.{Terminal}
 use Rattle.narrator.specs.State.{Manner}
-use Rattle.explain.specs.Grammar.{◌>>=◌, brief_in, ends_in, lane_given, purchase_given, terminal_given, at_most_one, at_most_once, manner_by, alone, with_argument, given_in, options_of, Refuses}
-use Rattle.explain.specs.Taking.{flag, number, asked_behind, options_behind, taken}
-use Rattle.explain.specs.Told.{way_by, whole}
-use Rattle.explain.specs.declared.options.Given.{Given}
-use Rattle.explain.specs.declared.options.Given.TheVariants.{Brief, Ends, Lane, Purchase, OneTerminal}
+use Rattle.explain.specs.Grammar.{◌>>=◌, brief_in, ends_in, lane_given, purchase_given, terminal_given, at_most_one, at_most_once, manner_by, option_alone, option_with_argument, options_given, manner_of_words, RefusesWords}
+use Rattle.explain.specs.Taking.{flag, number_or_none, asked_behind, options_behind, with_option}
+use Rattle.explain.specs.ToldLines.{way_by, whole_way}
+use Rattle.explain.specs.declared.options.OptionGiven.{OptionGiven}
+use Rattle.explain.specs.declared.options.OptionGiven.TheVariants.{Brief, Ends, Lane, Purchase, OneTerminal}
 use Rattle.explain.specs.declared.options.NoOptions.{NoOptions}
 use Rattle.explain.specs.declared.options.NoOptions.TheVariants.{Words, OutOfMemory}
 
@@ -32,40 +32,40 @@ abbrev made : Bool → Bool → Option ℕ → Option ℕ → List Terminal → 
 made brief ends lane purchase terminals =
     record { filter = record { brief = brief; ends = ends; lane = lane; purchase = purchase }; terminals = terminals }
 
-abbrev More : Manner → Given → List Given → Type 0
-More manner given others = asked_behind manner (given ∷ others) ≡ (taken manner given >>= (λ next. asked_behind next others))
+abbrev More : Manner → OptionGiven → List OptionGiven → Type 0
+More manner given others = asked_behind manner (given ∷ others) ≡ (with_option manner given >>= (λ next. asked_behind next others))
 
-more_brief : (brief ends : Bool) (lane purchase : Option ℕ) (terminals : List Terminal) (others : List Given)
+more_brief : (brief ends : Bool) (lane purchase : Option ℕ) (terminals : List Terminal) (others : List OptionGiven)
     → More (made brief ends lane purchase terminals) Brief others
 more_brief false ends lane purchase terminals others = refl
 more_brief true ends lane purchase terminals others = refl
 
-more_ends : (brief ends : Bool) (lane purchase : Option ℕ) (terminals : List Terminal) (others : List Given)
+more_ends : (brief ends : Bool) (lane purchase : Option ℕ) (terminals : List Terminal) (others : List OptionGiven)
     → More (made brief ends lane purchase terminals) Ends others
 more_ends brief false lane purchase terminals others = refl
 more_ends brief true lane purchase terminals others = none_behind (at_most_once (flag brief ++ flat_map brief_in others))
 
-more_lane : (brief ends : Bool) (lane purchase : Option ℕ) (terminals : List Terminal) (n : ℕ) (others : List Given)
+more_lane : (brief ends : Bool) (lane purchase : Option ℕ) (terminals : List Terminal) (n : ℕ) (others : List OptionGiven)
     → More (made brief ends lane purchase terminals) (Lane n) others
 more_lane brief ends None purchase terminals n others = refl
 more_lane brief ends (Some lane) purchase terminals n others =
     none_behind_two (at_most_once (flag brief ++ flat_map brief_in others)) (at_most_once (flag ends ++ flat_map ends_in others))
 
-more_purchase : (brief ends : Bool) (lane purchase : Option ℕ) (terminals : List Terminal) (n : ℕ) (others : List Given)
+more_purchase : (brief ends : Bool) (lane purchase : Option ℕ) (terminals : List Terminal) (n : ℕ) (others : List OptionGiven)
     → More (made brief ends lane purchase terminals) (Purchase n) others
 more_purchase brief ends lane None terminals n others = refl
 more_purchase brief ends lane (Some purchase) terminals n others =
     none_behind_three (at_most_once (flag brief ++ flat_map brief_in others)) (at_most_once (flag ends ++ flat_map ends_in others))
-    (at_most_one (number lane ++ flat_map lane_given others))
+    (at_most_one (number_or_none lane ++ flat_map lane_given others))
 
-more_terminal : (brief ends : Bool) (lane purchase : Option ℕ) (terminals : List Terminal) (t : Terminal) (others : List Given)
+more_terminal : (brief ends : Bool) (lane purchase : Option ℕ) (terminals : List Terminal) (t : Terminal) (others : List OptionGiven)
     → More (made brief ends lane purchase terminals) (OneTerminal t) others
 more_terminal brief ends lane purchase terminals t others =
     ap (manner_by (flag brief ++ flat_map brief_in others) (flag ends ++ flat_map ends_in others)
-    (number lane ++ flat_map lane_given others) (number purchase ++ flat_map purchase_given others))
+    (number_or_none lane ++ flat_map lane_given others) (number_or_none purchase ++ flat_map purchase_given others))
     (sym (append_assoc terminals (t ∷ []) (flat_map terminal_given others)))
 
-asked_more : (m : Manner) (given : Given) (others : List Given) → More m given others
+asked_more : (m : Manner) (given : OptionGiven) (others : List OptionGiven) → More m given others
 asked_more m Brief others = more_brief m.filter.brief m.filter.ends m.filter.lane m.filter.purchase m.terminals others
 asked_more m Ends others = more_ends m.filter.brief m.filter.ends m.filter.lane m.filter.purchase m.terminals others
 asked_more m (Lane n) others = more_lane m.filter.brief m.filter.ends m.filter.lane m.filter.purchase m.terminals n others
@@ -78,7 +78,7 @@ once_flag : (given : Bool) → at_most_once (flag given ++ []) ≡ Some given
 once_flag true = refl
 once_flag false = refl
 
-once_number : (given : Option ℕ) → at_most_one (number given ++ []) ≡ Some given
+once_number : (given : Option ℕ) → at_most_one (number_or_none given ++ []) ≡ Some given
 once_number None = refl
 once_number (Some n) = refl
 
@@ -87,43 +87,43 @@ asked_now m = rw (once_flag m.filter.brief, once_flag m.filter.ends, once_number
 
 -- ---- words
 
-given_first : (m : Manner) (given : Given) (found : Option (List Given))
-    → ((found >>= (λ behind. Some (given ∷ behind))) >>= (λ all. asked_behind m all)) ≡ (taken m given >>= (λ next. found >>= (λ all. asked_behind next all)))
-given_first m given None = sym (none_behind (taken m given))
+given_first : (m : Manner) (given : OptionGiven) (found : Option (List OptionGiven))
+    → ((found >>= (λ behind. Some (given ∷ behind))) >>= (λ all. asked_behind m all)) ≡ (with_option m given >>= (λ next. found >>= (λ all. asked_behind next all)))
+given_first m given None = sym (none_behind (with_option m given))
 given_first m given (Some others) = asked_more m given others
 
-pub behind_alone : (m : Manner) (word : List ℕ) (words : List (List ℕ)) (given : Given) → alone word ≡ Some given
-    → options_behind m (word ∷ words) ≡ (taken m given >>= (λ next. options_behind next words))
-unfolding options_behind given_in
+pub behind_alone : (m : Manner) (word : List ℕ) (words : List (List ℕ)) (given : OptionGiven) → option_alone word ≡ Some given
+    → options_behind m (word ∷ words) ≡ (with_option m given >>= (λ next. options_behind next words))
+unfolding options_behind options_given
 behind_alone m word [] given is = rw is (asked_more m given [])
-behind_alone m word (argument ∷ words) given is = rw is (given_first m given (given_in (argument ∷ words)))
+behind_alone m word (argument ∷ words) given is = rw is (given_first m given (options_given (argument ∷ words)))
 
-pub behind_with : (m : Manner) (word argument : List ℕ) (words : List (List ℕ)) (given : Given) → alone word ≡ None
-    → with_argument word argument ≡ Some given → options_behind m (word ∷ argument ∷ words) ≡ (taken m given >>= (λ next. options_behind next words))
-unfolding options_behind given_in
-behind_with m word argument words given longer is = rw (longer, is) (given_first m given (given_in words))
+pub behind_with : (m : Manner) (word argument : List ℕ) (words : List (List ℕ)) (given : OptionGiven) → option_alone word ≡ None
+    → option_with_argument word argument ≡ Some given → options_behind m (word ∷ argument ∷ words) ≡ (with_option m given >>= (λ next. options_behind next words))
+unfolding options_behind options_given
+behind_with m word argument words given longer is = rw (longer, is) (given_first m given (options_given words))
 
-pub behind_unread : (m : Manner) (word argument : List ℕ) (words : List (List ℕ)) → alone word ≡ None
-    → with_argument word argument ≡ None → options_behind m (word ∷ argument ∷ words) ≡ None
-unfolding options_behind given_in
+pub behind_unread : (m : Manner) (word argument : List ℕ) (words : List (List ℕ)) → option_alone word ≡ None
+    → option_with_argument word argument ≡ None → options_behind m (word ∷ argument ∷ words) ≡ None
+unfolding options_behind options_given
 behind_unread m word argument words longer none = rw (longer, none) refl
 
-pub behind_last : (m : Manner) (word : List ℕ) → alone word ≡ None → options_behind m (word ∷ []) ≡ None
-unfolding options_behind given_in
+pub behind_last : (m : Manner) (word : List ℕ) → option_alone word ≡ None → options_behind m (word ∷ []) ≡ None
+unfolding options_behind options_given
 behind_last m word longer = rw longer refl
 
 pub behind_end : (m : Manner) (words : List (List ℕ)) → words ≡ [] → options_behind m words ≡ Some m
-unfolding options_behind given_in
+unfolding options_behind options_given
 behind_end m words none = rw none (asked_now m)
 
 -- ---- what a refusal tells
 
-pub refuses_behind : (fault : NoOptions) (found : Option Manner) (next : Manner → Option Manner) → Refuses fault found → Refuses fault (found >>= next)
+pub refuses_behind : (fault : NoOptions) (found : Option Manner) (next : Manner → Option Manner) → RefusesWords fault found → RefusesWords fault (found >>= next)
 refuses_behind Words found next none = rw none refl
 refuses_behind OutOfMemory found next none = tt
 
-pub refuses_as : (fault : NoOptions) (found same : Option Manner) → same ≡ found → Refuses fault found → Refuses fault same
-refuses_as fault found same is refuses = subst (λ (o : Option Manner). Refuses fault o) (sym is) refuses
+pub refuses_as : (fault : NoOptions) (found same : Option Manner) → same ≡ found → RefusesWords fault found → RefusesWords fault same
+refuses_as fault found same is refuses = subst (λ (o : Option Manner). RefusesWords fault o) (sym is) refuses
 
 -- ---- lists of words
 
@@ -138,6 +138,6 @@ no_words f (x ∷ xs) few = absurd (omega arith)
 
 -- ---- without words
 
-pub asks_whole : (words : List (List ℕ)) (m : Manner) → words ≡ [] → options_of words ≡ Some m → way_by m ≡ whole
-unfolding options_of given_in
-asks_whole words m none asked = ap way_by (same_Some m whole.manner (sym asked ∙ rw none refl))
+pub asks_whole : (words : List (List ℕ)) (m : Manner) → words ≡ [] → manner_of_words words ≡ Some m → way_by m ≡ whole_way
+unfolding manner_of_words options_given
+asks_whole words m none asked = ap way_by (same_Some m whole_way.manner (sym asked ∙ rw none refl))

@@ -3,17 +3,17 @@ use Rattle.std.specs.Prelude.{ℕ, ◌≡◌, nat_le, ◌==◌, Bool, true, ◌&
 use Rattle.std.specs.List.{flat_map}
 use Rattle.std.specs.Str.{bytes_eq}
 use Rattle.hex.specs.Hex.{decode_of}
-use Rattle.action_words.specs.Codes.{reach_of}
-use Rattle.action_words.specs.declared.asking.Reach.{Reach}
-use Rattle.action_words.specs.declared.asking.Row.{Row}
-use Rattle.lane_words.specs.declared.terminal.Terminal.{Terminal}
-use Rattle.list_words.specs.Plain.{number_in}
+use Rattle.value_words.specs.Codes.{reach_of}
+use Rattle.value_words.specs.declared.asking.Reach.{Reach}
+use Rattle.value_words.specs.declared.asking.Row.{Row}
+use Rattle.exchange_words.specs.declared.terminal.Terminal.{Terminal}
+use Rattle.value_words.specs.Plain.{binary_number}
 use Rattle.narrator.specs.State.{Manner}
-use Rattle.report_lines.specs.Bytes.{decoded}
-use Rattle.report_lines.specs.Pieces.{split_comma, number_of}
+use Rattle.report_lines.specs.Bytes.{decoded_hex}
+use Rattle.report_lines.specs.Parts.{split_comma, decimal_number}
 use Rattle.report_lines.specs.Reading.{lane_in}
-use Rattle.explain.specs.declared.options.Given.{Given}
-use Rattle.explain.specs.declared.options.Given.TheVariants.{Brief, Ends, Lane, Purchase, OneTerminal}
+use Rattle.explain.specs.declared.options.OptionGiven.{OptionGiven}
+use Rattle.explain.specs.declared.options.OptionGiven.TheVariants.{Brief, Ends, Lane, Purchase, OneTerminal}
 use Rattle.explain.specs.declared.options.NoOptions.{NoOptions}
 use Rattle.explain.specs.declared.options.NoOptions.TheVariants.{Words, OutOfMemory}
 
@@ -24,45 +24,45 @@ None >>= f = None
 (Some x) >>= f = f x
 
 -- bytes in hexadecimal, two digits of either case a byte
-abbrev pub bytes_of : List ℕ → Option (List ℕ)
-bytes_of text = decoded (decode_of text)
+abbrev pub bytes_in_hex : List ℕ → Option (List ℕ)
+bytes_in_hex text = decoded_hex (decode_of text)
 
 -- the name of an application: 5 to 16 bytes
-unfoldable pub name_of : List ℕ → Option (List ℕ)
-name_of text = do
-  name ← bytes_of text
+unfoldable pub app_name_of : List ℕ → Option (List ℕ)
+app_name_of text = do
+  name ← bytes_in_hex text
   if nat_le 5 (length name) && nat_le (length name) 16 then Some name else None
 
 -- an action code: five bytes, as one number
-unfoldable pub code_of : List ℕ → Option ℕ
-code_of text = do
-  bytes ← bytes_of text
-  if length bytes == 5 then Some (number_in bytes) else None
+unfoldable pub action_code : List ℕ → Option ℕ
+action_code text = do
+  bytes ← bytes_in_hex text
+  if length bytes == 5 then Some (binary_number bytes) else None
 
 -- where a terminal of this kind may decide: the kinds of a merchant's are 21 to 26
 abbrev pub reach_in : List ℕ → Option Reach
 reach_in text = do
-  kind ← number_of text
+  kind ← decimal_number text
   reach_of kind
 
 -- `1` where a longer name that begins so is meant too, else `0`
 abbrev pub partial_in : List ℕ → Option Bool
 partial_in text = do
-  number ← number_of text
+  number ← decimal_number text
   if nat_le number 1 then Some (number == 1) else None
 
 -- a kind and three codes
 abbrev pub row_by : List ℕ → List ℕ → List ℕ → List ℕ → Option Row
 row_by kind denial online other = do
   reach ← reach_in kind
-  denied ← code_of denial
-  sent ← code_of online
-  unsent ← code_of other
+  denied ← action_code denial
+  sent ← action_code online
+  unsent ← action_code other
   Some (record { reach = reach; denial = denied; online = sent; default = unsent })
 
 -- a kind, and `DENIAL,ONLINE,DEFAULT`
-unfoldable pub row_in : List ℕ → List ℕ → Option Row
-row_in kind text =
+unfoldable pub terminal_row_in : List ℕ → List ℕ → Option Row
+terminal_row_in kind text =
     let denial = split_comma text in
     let online = split_comma denial.1 in
     row_by kind denial.0 online.0 online.1
@@ -71,9 +71,9 @@ row_in kind text =
 abbrev pub terminal_by : List ℕ → List ℕ → List ℕ → List ℕ → List ℕ → Option Terminal
 terminal_by lane kind name partial rest = do
   number ← lane_in lane
-  bytes ← name_of name
+  bytes ← app_name_of name
   longer ← partial_in partial
-  row ← row_in kind rest
+  row ← terminal_row_in kind rest
   Some (record { lane = number; name = record { items = bytes }; partial = longer; row = row })
 
 -- what a lane's terminal has for an application: `LANE,KIND,AID,PARTIAL,DENIAL,ONLINE,DEFAULT`
@@ -86,53 +86,53 @@ terminal_of text =
     terminal_by lane.0 kind.0 name.0 partial.0 partial.1
 
 -- the option of a word that stands alone
-unfoldable pub alone : List ℕ → Option Given
-alone word =
+unfoldable pub option_alone : List ℕ → Option OptionGiven
+option_alone word =
     if bytes_eq word (codes "--brief") then Some Brief
     else if bytes_eq word (codes "--ends") then Some Ends
     else None
 
 -- the option of a word and its argument
-unfoldable pub with_argument : List ℕ → List ℕ → Option Given
-with_argument word argument =
+unfoldable pub option_with_argument : List ℕ → List ℕ → Option OptionGiven
+option_with_argument word argument =
     if bytes_eq word (codes "--lane") then option_map Lane (lane_in argument)
-    else if bytes_eq word (codes "--purchase") then option_map Purchase (number_of argument)
+    else if bytes_eq word (codes "--purchase") then option_map Purchase (decimal_number argument)
     else if bytes_eq word (codes "--terminal") then option_map OneTerminal (terminal_of argument)
     else None
 
 -- an option in front of others
-abbrev pub before : Option Given → Option (List Given) → Option (List Given)
-before first others = do
+abbrev pub option_before : Option OptionGiven → Option (List OptionGiven) → Option (List OptionGiven)
+option_before first others = do
   given ← first
   behind ← others
   Some (given ∷ behind)
 
 -- the options that the words give, in their order
-unfoldable pub given_in : List (List ℕ) → Option (List Given)
-given_in [] = Some []
-given_in (word ∷ []) = before (alone word) (Some [])
-given_in (word ∷ argument ∷ words) =
-    if is_some (alone word) then before (alone word) (given_in (argument ∷ words))
-    else before (with_argument word argument) (given_in words)
+unfoldable pub options_given : List (List ℕ) → Option (List OptionGiven)
+options_given [] = Some []
+options_given (word ∷ []) = option_before (option_alone word) (Some [])
+options_given (word ∷ argument ∷ words) =
+    if is_some (option_alone word) then option_before (option_alone word) (options_given (argument ∷ words))
+    else option_before (option_with_argument word argument) (options_given words)
 
 -- of each option what it gives of one kind
-abbrev pub brief_in : Given → List Bool
+abbrev pub brief_in : OptionGiven → List Bool
 brief_in Brief = true ∷ []
 brief_in _ = []
 
-abbrev pub ends_in : Given → List Bool
+abbrev pub ends_in : OptionGiven → List Bool
 ends_in Ends = true ∷ []
 ends_in _ = []
 
-abbrev pub lane_given : Given → List ℕ
+abbrev pub lane_given : OptionGiven → List ℕ
 lane_given (Lane number) = number ∷ []
 lane_given _ = []
 
-abbrev pub purchase_given : Given → List ℕ
+abbrev pub purchase_given : OptionGiven → List ℕ
 purchase_given (Purchase number) = number ∷ []
 purchase_given _ = []
 
-abbrev pub terminal_given : Given → List Terminal
+abbrev pub terminal_given : OptionGiven → List Terminal
 terminal_given (OneTerminal terminal) = terminal ∷ []
 terminal_given _ = []
 
@@ -156,16 +156,16 @@ manner_by briefs ends lanes purchases terminals = do
   Some (record { filter = record { brief = brief; ends = only_ends; lane = lane; purchase = purchase }; terminals = terminals })
 
 -- what is asked for, in any order: each option but `--terminal` at most once
-abbrev pub asked_by : List Given → Option Manner
-asked_by given = manner_by (flat_map brief_in given) (flat_map ends_in given) (flat_map lane_given given) (flat_map purchase_given given) (flat_map terminal_given given)
+abbrev pub manner_of_options : List OptionGiven → Option Manner
+manner_of_options given = manner_by (flat_map brief_in given) (flat_map ends_in given) (flat_map lane_given given) (flat_map purchase_given given) (flat_map terminal_given given)
 
 -- what the words ask for: `[--brief] [--ends] [--lane N] [--purchase N] [--terminal T]...`
-unfoldable pub options_of : List (List ℕ) → Option Manner
-options_of words = do
-  given ← given_in words
-  asked_by given
+unfoldable pub manner_of_words : List (List ℕ) → Option Manner
+manner_of_words words = do
+  given ← options_given words
+  manner_of_options given
 
 -- why there are no options: the words are not in the grammar; a want of memory says nothing of them
-abbrev pub Refuses : NoOptions → Option Manner → Type 0
-Refuses Words asked = asked ≡ None
-Refuses OutOfMemory asked = Unit {0}
+abbrev pub RefusesWords : NoOptions → Option Manner → Type 0
+RefusesWords Words asked = asked ≡ None
+RefusesWords OutOfMemory asked = Unit {0}

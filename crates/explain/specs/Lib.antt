@@ -1,5 +1,5 @@
-pub mod Course
+pub mod ReportSoFar
 pub mod Grammar
 pub mod Reading
 pub mod Taking
-pub mod Told
+pub mod ToldLines

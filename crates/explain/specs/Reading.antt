@@ -5,9 +5,9 @@ use Rattle.std.specs.declared.option.Option.TheVariants.{Some}
 use Rattle.std.specs.Io.KnownBytes.{Consumes, IsAtEnd}
 use Rattle.emv_ports.specs.Causes.{Rose}
 use Rattle.narrator.specs.State.{Manner}
-use Rattle.explain.specs.Course.{Stand, SoFar, Stopped}
-use Rattle.explain.specs.Grammar.{options_of}
-use Rattle.explain.specs.Told.{Way, BrokenOff, way_by, most_read}
+use Rattle.explain.specs.ReportSoFar.{Stand, IsReportSoFar, TellingWasStopped}
+use Rattle.explain.specs.Grammar.{manner_of_words}
+use Rattle.explain.specs.ToldLines.{Way, BrokenOff, way_by, most_read}
 use Rattle.explain.specs.declared.top.Broken.{Broken}
 use Rattle.explain.specs.declared.top.Broken.TheVariants.{Source, Sink, OutOfMemory}
 
@@ -16,34 +16,34 @@ pub record ReadAll (way : Way) (pending : List ℕ) (stand : Stand) (left left_a
   pub input : List ℕ
   pub read : Consumes left left_after input
   pub end : length input < most_read → IsAtEnd left_after
-  pub so_far : SoFar way pending stand input first held
+  pub so_far : IsReportSoFar way pending stand input first held
 
 -- some was read, and a front of what its first bytes are explained as was handed on
 pub record ReadSome (way : Way) (left left_after first held : Option (List ℕ)) : Type 0 where
   pub input : List ℕ
   pub later : List ℕ
   pub read : Consumes left left_after (input ++ later)
-  pub stopped : Stopped way input first held
+  pub stopped : TellingWasStopped way input first held
 
 -- the count of the source's faults over one call
-abbrev pub SourceCount : {T : Type 0} → ℕ → ℕ → Result T Broken → Type 0
-SourceCount before now (Ok value) = now ≡ before
-SourceCount before now (Err Source) = Rose before now
-SourceCount before now (Err Sink) = now ≡ before
-SourceCount before now (Err OutOfMemory) = now ≡ before
+abbrev pub TellingSourceCount : {T : Type 0} → ℕ → ℕ → Result T Broken → Type 0
+TellingSourceCount before now (Ok value) = now ≡ before
+TellingSourceCount before now (Err Source) = Rose before now
+TellingSourceCount before now (Err Sink) = now ≡ before
+TellingSourceCount before now (Err OutOfMemory) = now ≡ before
 
 -- the count of the sink's faults
-abbrev pub SinkCount : {T : Type 0} → ℕ → ℕ → Result T Broken → Type 0
-SinkCount before now (Ok value) = now ≡ before
-SinkCount before now (Err Source) = now ≡ before
-SinkCount before now (Err Sink) = Rose before now
-SinkCount before now (Err OutOfMemory) = now ≡ before
+abbrev pub TellingSinkCount : {T : Type 0} → ℕ → ℕ → Result T Broken → Type 0
+TellingSinkCount before now (Ok value) = now ≡ before
+TellingSinkCount before now (Err Source) = now ≡ before
+TellingSinkCount before now (Err Sink) = Rose before now
+TellingSinkCount before now (Err OutOfMemory) = now ≡ before
 
 -- some was read, and a front of what its first bytes are explained as, in the manner that the words ask for, was written
 abbrev pub BrokenOffAsAsked : List (List ℕ) → Option (List ℕ) → Option (List ℕ) → Option (List ℕ) → Option (List ℕ) → Type 0
 BrokenOffAsAsked words left left_after held held_after =
-    (manner : Manner) × (options_of words ≡ Some manner) × BrokenOff (way_by manner) left left_after held held_after
+    (manner : Manner) × (manner_of_words words ≡ Some manner) × BrokenOff (way_by manner) left left_after held held_after
 
 -- the line that answers words which are not in the grammar
-abbrev pub usage_line : List ℕ
-usage_line = codes "usage: explain [--brief] [--ends] [--lane N] [--purchase N] [--terminal T]...\n"
+abbrev pub explain_usage_line : List ℕ
+explain_usage_line = codes "usage: explain [--brief] [--ends] [--lane N] [--purchase N] [--terminal T]...\n"

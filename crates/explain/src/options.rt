@@ -1,18 +1,17 @@
 //! The words of the command line.
 ghost use Rattle.std.specs.Prelude.{◌≡◌, ◌<◌, ◌≤◌, ◌∷◌, length, map, string_bytes, true, false, Some, None, option_map, IfSome, IfOk, IfErr, OnOk};
 ghost use Rattle.report_lines.specs.Reading.{lane_in};
-ghost use Rattle.explain.specs.Grammar.{bytes_of, name_of, code_of, reach_in, partial_in, row_in, terminal_of, alone, with_argument, options_of, Refuses};
+ghost use Rattle.explain.specs.Grammar.{bytes_in_hex, app_name_of, action_code, reach_in, partial_in, terminal_row_in, terminal_of, option_alone, option_with_argument, manner_of_words, RefusesWords};
 ghost use Rattle.explain.specs.Taking as spec;
-ghost use Rattle.explain.specs.Taking.{options_behind, taken};
-ghost use Rattle.explain.specs.Told.{manner_in};
+ghost use Rattle.explain.specs.Taking.{options_behind, with_option};
+ghost use Rattle.explain.specs.ToldLines.{manner_in};
 
-use action_words::{Reach, Row, reach_of};
 use arrayvec::ArrayVec;
-use lane_words::Terminal;
-use list_words::number_in;
+use exchange_words::Terminal;
 use narrator::Filter;
 use report_lines::{number_of, split_at_comma};
 use std::alloc::Global;
+use value_words::{Reach, Row, number_in, reach_of};
 
 /// What the words ask for.
 #[derive(Drop)]
@@ -23,7 +22,7 @@ pub struct Options {
 
 /// One option of the command line.
 #[derive(Drop)]
-pub enum Given {
+pub enum OptionGiven {
     /// `--brief`
     Brief,
     /// `--ends`
@@ -47,9 +46,9 @@ pub enum NoOptions {
 
 /// Up to 16 bytes in hexadecimal.
 fn read_bytes(text: &[u8]) -> Option<ArrayVec<u8, 16>>
-    ensures some { IfSome result (λ bytes. bytes_of text.now ≡ Some bytes.items) }
+    ensures some { IfSome result (λ bytes. bytes_in_hex text.now ≡ Some bytes.items) }
     ensures few { IfSome result (λ bytes. length bytes.items ≤ 16) }
-    ensures none { result ≡ None → IfSome (bytes_of text.now) (λ bytes. 16 < length bytes) }
+    ensures none { result ≡ None → IfSome (bytes_in_hex text.now) (λ bytes. 16 < length bytes) }
 {
     let mut bytes = ArrayVec::from([0u8; 16]);
     bytes.truncate(text.len() / 2);
@@ -61,7 +60,7 @@ fn read_bytes(text: &[u8]) -> Option<ArrayVec<u8, 16>>
 
 /// The name of an application: 5 to 16 bytes.
 fn read_name(text: &[u8]) -> Option<ArrayVec<u8, 16>>
-    ensures { option_map (λ name. name.items) result ≡ name_of text.now }
+    ensures { option_map (λ name. name.items) result ≡ app_name_of text.now }
 {
     let name = read_bytes(text)?;
     if name.len() >= 5 { Some(name) } else { None }
@@ -69,7 +68,7 @@ fn read_name(text: &[u8]) -> Option<ArrayVec<u8, 16>>
 
 /// An action code: five bytes as one number.
 fn read_code(text: &[u8]) -> Option<u64>
-    ensures { result ≡ code_of text.now }
+    ensures { result ≡ action_code text.now }
 {
     let bytes = read_bytes(text)?;
     if bytes.len() == 5 {
@@ -91,9 +90,9 @@ fn read_reach(text: &[u8]) -> Option<Reach>
 }
 
 /// What a terminal has for an application: its kind, and `DENIAL,ONLINE,DEFAULT`.
-#[tactic(auto, unfolding(crate::specs::Grammar::row_in))]
+#[tactic(auto, unfolding(crate::specs::Grammar::terminal_row_in))]
 fn read_row(kind: &[u8], codes: &[u8]) -> Option<Row>
-    ensures { result ≡ row_in kind.now codes.now }
+    ensures { result ≡ terminal_row_in kind.now codes.now }
 {
     let (denial, rest) = split_at_comma(codes);
     let (online, default) = split_at_comma(rest);
@@ -143,26 +142,26 @@ fn read_terminal(text: &[u8]) -> Option<Terminal>
 }
 
 /// The option of a word that stands alone.
-#[tactic(auto, unfolding(crate::specs::Grammar::alone))]
-fn read_alone(word: &String) -> Option<Given>
-    ensures { result ≡ alone (string_bytes word.now) }
+#[tactic(auto, unfolding(crate::specs::Grammar::option_alone))]
+fn read_alone(word: &String) -> Option<OptionGiven>
+    ensures { result ≡ option_alone (string_bytes word.now) }
 {
     match word.as_str() {
-        "--brief" => Some(Given::Brief),
-        "--ends" => Some(Given::Ends),
+        "--brief" => Some(OptionGiven::Brief),
+        "--ends" => Some(OptionGiven::Ends),
         _ => None,
     }
 }
 
 /// The option of a word and its argument.
-#[tactic(auto, unfolding(crate::specs::Grammar::with_argument))]
-fn read_with(word: &String, argument: &[u8]) -> Option<Given>
-    ensures { result ≡ with_argument (string_bytes word.now) argument.now }
+#[tactic(auto, unfolding(crate::specs::Grammar::option_with_argument))]
+fn read_with(word: &String, argument: &[u8]) -> Option<OptionGiven>
+    ensures { result ≡ option_with_argument (string_bytes word.now) argument.now }
 {
     match word.as_str() {
-        "--lane" => Some(Given::Lane(read_lane(argument)?)),
-        "--purchase" => Some(Given::Purchase(number_of(argument)?)),
-        "--terminal" => Some(Given::OneTerminal(read_terminal(argument)?)),
+        "--lane" => Some(OptionGiven::Lane(read_lane(argument)?)),
+        "--purchase" => Some(OptionGiven::Purchase(number_of(argument)?)),
+        "--terminal" => Some(OptionGiven::OneTerminal(read_terminal(argument)?)),
         _ => None,
     }
 }
@@ -180,28 +179,28 @@ fn take_flag(flag: &mut bool) -> Result<(), NoOptions>
 }
 
 /// Takes one option more: each but `--terminal` once.
-fn take(options: &mut Options, given: Given) -> Result<(), NoOptions>
-    ensures ok { OnOk result (taken (manner_in options.old) given ≡ Some (manner_in options.new)) }
-    ensures err { IfErr result (λ no. Refuses no (taken (manner_in options.old) given)) }
+fn take(options: &mut Options, given: OptionGiven) -> Result<(), NoOptions>
+    ensures ok { OnOk result (with_option (manner_in options.old) given ≡ Some (manner_in options.new)) }
+    ensures err { IfErr result (λ no. RefusesWords no (with_option (manner_in options.old) given)) }
 {
     match given {
-        Given::Brief => take_flag(&mut options.filter.brief),
-        Given::Ends => take_flag(&mut options.filter.ends),
-        Given::Lane(lane) => {
+        OptionGiven::Brief => take_flag(&mut options.filter.brief),
+        OptionGiven::Ends => take_flag(&mut options.filter.ends),
+        OptionGiven::Lane(lane) => {
             if options.filter.lane.is_some() {
                 return Err(NoOptions::Words);
             }
             options.filter.lane = Some(lane);
             Ok(())
         }
-        Given::Purchase(purchase) => {
+        OptionGiven::Purchase(purchase) => {
             if options.filter.purchase.is_some() {
                 return Err(NoOptions::Words);
             }
             options.filter.purchase = Some(purchase);
             Ok(())
         }
-        Given::OneTerminal(terminal) => match options.terminals.push(terminal) {
+        OptionGiven::OneTerminal(terminal) => match options.terminals.push(terminal) {
             Ok(()) => Ok(()),
             Err(_) => Err(NoOptions::OutOfMemory),
         },
@@ -214,11 +213,11 @@ fn take_with<'a>(
     word: &String,
     rest: &'a [String],
 ) -> Result<&'a [String], NoOptions>
-    ensures ok { alone (string_bytes word.now) ≡ None
+    ensures ok { option_alone (string_bytes word.now) ≡ None
         → IfOk result (λ behind. options_behind (manner_in options.old) (string_bytes word.now ∷ map string_bytes rest.now)
         ≡ options_behind (manner_in options.new) (map string_bytes behind.now)) }
-    ensures err { alone (string_bytes word.now) ≡ None
-        → IfErr result (λ no. Refuses no (options_behind (manner_in options.old) (string_bytes word.now ∷ map string_bytes rest.now))) }
+    ensures err { option_alone (string_bytes word.now) ≡ None
+        → IfErr result (λ no. RefusesWords no (options_behind (manner_in options.old) (string_bytes word.now ∷ map string_bytes rest.now))) }
     ensures fewer { IfOk result (λ behind. length behind.now ≤ length rest.now) }
 {
     match rest {
@@ -241,7 +240,7 @@ fn take_option<'a>(
 ) -> Result<&'a [String], NoOptions>
     ensures ok { IfOk result (λ behind. options_behind (manner_in options.old) (string_bytes word.now ∷ map string_bytes rest.now)
         ≡ options_behind (manner_in options.new) (map string_bytes behind.now)) }
-    ensures err { IfErr result (λ no. Refuses no (options_behind (manner_in options.old) (string_bytes word.now ∷ map string_bytes rest.now))) }
+    ensures err { IfErr result (λ no. RefusesWords no (options_behind (manner_in options.old) (string_bytes word.now ∷ map string_bytes rest.now))) }
     ensures fewer { IfOk result (λ behind. length behind.now ≤ length rest.now) }
 {
     match read_alone(word) {
@@ -256,7 +255,7 @@ fn take_option<'a>(
 /// Takes all words.
 fn take_options(options: Options, words: &[String]) -> Result<Options, NoOptions>
     ensures ok { IfOk result (λ all. options_behind (manner_in options) (map string_bytes words.now) ≡ Some (manner_in all)) }
-    ensures err { IfErr result (λ no. Refuses no (options_behind (manner_in options) (map string_bytes words.now))) }
+    ensures err { IfErr result (λ no. RefusesWords no (options_behind (manner_in options) (map string_bytes words.now))) }
 {
     let mut options = options;
     let mut left = words;
@@ -267,12 +266,12 @@ fn take_options(options: Options, words: &[String]) -> Result<Options, NoOptions
 }
 
 /// Reads `[--brief] [--ends] [--lane N] [--purchase N] [--terminal T]...`, in any order.
-#[tactic(auto, unfolding(crate::specs::Grammar::options_of, crate::specs::Taking::options_behind))]
+#[tactic(auto, unfolding(crate::specs::Grammar::manner_of_words, crate::specs::Taking::options_behind))]
 pub fn read_options(alloc: Global, words: &[String]) -> Result<Options, NoOptions>
     // They are what the words ask for.
-    ensures ok { IfOk result (λ options. options_of (map string_bytes words.now) ≡ Some (manner_in options)) }
+    ensures ok { IfOk result (λ options. manner_of_words (map string_bytes words.now) ≡ Some (manner_in options)) }
     // The words are not in the grammar, or there was no memory.
-    ensures err { IfErr result (λ no. Refuses no (options_of (map string_bytes words.now))) }
+    ensures err { IfErr result (λ no. RefusesWords no (manner_of_words (map string_bytes words.now))) }
 {
     let options = Options {
         filter: Filter {

@@ -6,15 +6,15 @@ ghost use Rattle.arrayvec.specs.ArrayVec.{array_vec_len};
 ghost use Rattle.emv_ports.specs.Growth.{AppendsFront};
 ghost use Rattle.narrator.specs.State.{seen_state};
 ghost use Rattle.narrator.specs.Words.{Narrates, is_text_left};
-ghost use Rattle.word_lines.specs.Lines.{AreWordLines};
-ghost use Rattle.explain.specs.Course.{SoFar, Stopped, Ended, HasStop, way_in, stand_of};
-ghost use Rattle.explain.specs.Told.{rest_of};
+ghost use Rattle.report_lines.specs.Lines.{AreWordLines};
+ghost use Rattle.explain.specs.ReportSoFar.{IsReportSoFar, TellingWasStopped, Ended, HasStop, way_in, stand_of};
+ghost use Rattle.explain.specs.ToldLines.{rest_behind_lines};
 
 use arrayvec::ArrayVec;
 use emv_ports::{Failed, Sink, write_all};
 use narrator::Narrator;
+use report_lines::WordLines;
 use std::alloc::AllocError;
-use word_lines::WordLines;
 
 /// Why the lines stop before their end.
 #[derive(Clone, Copy, PartialEq, Eq, Debug)]
@@ -55,8 +55,8 @@ fn put<K: Sink>(sink: &mut K, text: &[u8]) -> Result<(), Stop>
 
 /// Hands a text to the sink where no filter is given.
 fn put_rest<K: Sink>(sink: &mut K, all: bool, text: &[u8]) -> Result<(), Stop>
-    ensures all { OnOk result (Appends (K.held sink.old) (K.held sink.new) (rest_of all text.now)) }
-    ensures front { OnErr result (AppendsFront (K.held sink.old) (K.held sink.new) (rest_of all text.now)) }
+    ensures all { OnOk result (Appends (K.held sink.old) (K.held sink.new) (rest_behind_lines all text.now)) }
+    ensures front { OnErr result (AppendsFront (K.held sink.old) (K.held sink.new) (rest_behind_lines all text.now)) }
     ensures stop { HasStop (K.faults sink.old) (K.faults sink.new) result }
 {
     if all { put(sink, text) } else { Ok(()) }
@@ -76,8 +76,8 @@ fn put_line<K: Sink>(sink: &mut K, text: &[u8]) -> Result<(), Stop>
 
 /// Hands a text and a newline to the sink where no filter is given.
 fn put_end<K: Sink>(sink: &mut K, all: bool, text: &[u8]) -> Result<(), Stop>
-    ensures all { OnOk result (Appends (K.held sink.old) (K.held sink.new) (rest_of all (text.now ++ 10 ∷ []))) }
-    ensures front { OnErr result (AppendsFront (K.held sink.old) (K.held sink.new) (rest_of all (text.now ++ 10 ∷ []))) }
+    ensures all { OnOk result (Appends (K.held sink.old) (K.held sink.new) (rest_behind_lines all (text.now ++ 10 ∷ []))) }
+    ensures front { OnErr result (AppendsFront (K.held sink.old) (K.held sink.new) (rest_behind_lines all (text.now ++ 10 ∷ []))) }
     ensures stop { HasStop (K.faults sink.old) (K.faults sink.new) result }
 {
     if all { put_line(sink, text) } else { Ok(()) }
@@ -111,9 +111,9 @@ fn put_shown<K: Sink>(sink: &mut K, shown: bool, text: &[u8], words: &[u8]) -> R
 /// Hands on what came of a line that is too long to be told.
 fn flush<K: Sink>(teller: &mut Teller, sink: &mut K) -> Result<(), Stop>
     requires { 8192 ≤ array_vec_len teller.old.line }
-    ensures ok { OnOk result ((seen : List ℕ) (first : Option (List ℕ)) → SoFar (way_in teller.old) teller.old.line.items (stand_of teller.old) seen first (K.held sink.old)
-        → SoFar (way_in teller.new) teller.new.line.items (stand_of teller.new) seen first (K.held sink.new)) }
-    ensures front { OnErr result (AppendsFront (K.held sink.old) (K.held sink.new) (rest_of teller.old.all teller.old.line.items)) }
+    ensures ok { OnOk result ((seen : List ℕ) (first : Option (List ℕ)) → IsReportSoFar (way_in teller.old) teller.old.line.items (stand_of teller.old) seen first (K.held sink.old)
+        → IsReportSoFar (way_in teller.new) teller.new.line.items (stand_of teller.new) seen first (K.held sink.new)) }
+    ensures front { OnErr result (AppendsFront (K.held sink.old) (K.held sink.new) (rest_behind_lines teller.old.all teller.old.line.items)) }
     ensures empty { OnOk result (array_vec_len teller.new.line ≡ 0) }
     ensures way { way_in teller.new ≡ way_in teller.old }
     ensures stop { HasStop (K.faults sink.old) (K.faults sink.new) result }
@@ -130,9 +130,9 @@ fn flush<K: Sink>(teller: &mut Teller, sink: &mut K) -> Result<(), Stop>
 
 /// Makes room for a byte of the line.
 fn make_room<K: Sink>(teller: &mut Teller, sink: &mut K) -> Result<(), Stop>
-    ensures ok { OnOk result ((seen : List ℕ) (first : Option (List ℕ)) → SoFar (way_in teller.old) teller.old.line.items (stand_of teller.old) seen first (K.held sink.old)
-        → SoFar (way_in teller.new) teller.new.line.items (stand_of teller.new) seen first (K.held sink.new)) }
-    ensures front { OnErr result (AppendsFront (K.held sink.old) (K.held sink.new) (rest_of teller.old.all teller.old.line.items)) }
+    ensures ok { OnOk result ((seen : List ℕ) (first : Option (List ℕ)) → IsReportSoFar (way_in teller.old) teller.old.line.items (stand_of teller.old) seen first (K.held sink.old)
+        → IsReportSoFar (way_in teller.new) teller.new.line.items (stand_of teller.new) seen first (K.held sink.new)) }
+    ensures front { OnErr result (AppendsFront (K.held sink.old) (K.held sink.new) (rest_behind_lines teller.old.all teller.old.line.items)) }
     ensures room { OnOk result (array_vec_len teller.new.line ≤ 8191) }
     ensures way { way_in teller.new ≡ way_in teller.old }
     ensures stop { HasStop (K.faults sink.old) (K.faults sink.new) result }
@@ -146,10 +146,10 @@ fn make_room<K: Sink>(teller: &mut Teller, sink: &mut K) -> Result<(), Stop>
 /// Takes a byte of the line.
 fn take_inner<K: Sink>(teller: &mut Teller, byte: u8, sink: &mut K) -> Result<(), Stop>
     requires { byte ≢ 10 }
-    ensures ok { OnOk result ((seen : List ℕ) (first : Option (List ℕ)) → SoFar (way_in teller.old) teller.old.line.items (stand_of teller.old) seen first (K.held sink.old)
-        → SoFar (way_in teller.new) teller.new.line.items (stand_of teller.new) (seen ++ byte ∷ []) first (K.held sink.new)) }
-    ensures err { OnErr result ((seen : List ℕ) (first : Option (List ℕ)) → SoFar (way_in teller.old) teller.old.line.items (stand_of teller.old) seen first (K.held sink.old)
-        → Stopped (way_in teller.old) (seen ++ byte ∷ []) first (K.held sink.new)) }
+    ensures ok { OnOk result ((seen : List ℕ) (first : Option (List ℕ)) → IsReportSoFar (way_in teller.old) teller.old.line.items (stand_of teller.old) seen first (K.held sink.old)
+        → IsReportSoFar (way_in teller.new) teller.new.line.items (stand_of teller.new) (seen ++ byte ∷ []) first (K.held sink.new)) }
+    ensures err { OnErr result ((seen : List ℕ) (first : Option (List ℕ)) → IsReportSoFar (way_in teller.old) teller.old.line.items (stand_of teller.old) seen first (K.held sink.old)
+        → TellingWasStopped (way_in teller.old) (seen ++ byte ∷ []) first (K.held sink.new)) }
     ensures way { way_in teller.new ≡ way_in teller.old }
     ensures stop { HasStop (K.faults sink.old) (K.faults sink.new) result }
 {
@@ -165,10 +165,10 @@ fn take_inner<K: Sink>(teller: &mut Teller, byte: u8, sink: &mut K) -> Result<()
 /// Ends a line that is too long to be told.
 fn end_long<K: Sink>(teller: &mut Teller, sink: &mut K) -> Result<(), Stop>
     requires { teller.old.long ≡ true }
-    ensures ok { OnOk result ((seen : List ℕ) (first : Option (List ℕ)) → SoFar (way_in teller.old) teller.old.line.items (stand_of teller.old) seen first (K.held sink.old)
-        → SoFar (way_in teller.new) teller.new.line.items (stand_of teller.new) (seen ++ 10 ∷ []) first (K.held sink.new)) }
-    ensures err { OnErr result ((seen : List ℕ) (first : Option (List ℕ)) → SoFar (way_in teller.old) teller.old.line.items (stand_of teller.old) seen first (K.held sink.old)
-        → Stopped (way_in teller.old) (seen ++ 10 ∷ []) first (K.held sink.new)) }
+    ensures ok { OnOk result ((seen : List ℕ) (first : Option (List ℕ)) → IsReportSoFar (way_in teller.old) teller.old.line.items (stand_of teller.old) seen first (K.held sink.old)
+        → IsReportSoFar (way_in teller.new) teller.new.line.items (stand_of teller.new) (seen ++ 10 ∷ []) first (K.held sink.new)) }
+    ensures err { OnErr result ((seen : List ℕ) (first : Option (List ℕ)) → IsReportSoFar (way_in teller.old) teller.old.line.items (stand_of teller.old) seen first (K.held sink.old)
+        → TellingWasStopped (way_in teller.old) (seen ++ 10 ∷ []) first (K.held sink.new)) }
     ensures way { way_in teller.new ≡ way_in teller.old }
     ensures stop { HasStop (K.faults sink.old) (K.faults sink.new) result }
 {
@@ -204,10 +204,10 @@ fn tell(teller: &mut Teller) -> Result<bool, AllocError>
 /// Ends a line, and hands it on with its words.
 fn end_short<K: Sink>(teller: &mut Teller, sink: &mut K) -> Result<(), Stop>
     requires { teller.old.long ≡ false }
-    ensures ok { OnOk result ((seen : List ℕ) (first : Option (List ℕ)) → SoFar (way_in teller.old) teller.old.line.items (stand_of teller.old) seen first (K.held sink.old)
-        → SoFar (way_in teller.new) teller.new.line.items (stand_of teller.new) (seen ++ 10 ∷ []) first (K.held sink.new)) }
-    ensures err { OnErr result ((seen : List ℕ) (first : Option (List ℕ)) → SoFar (way_in teller.old) teller.old.line.items (stand_of teller.old) seen first (K.held sink.old)
-        → (taken : ℕ) × Stopped (way_in teller.old) (seen ++ take taken (10 ∷ [])) first (K.held sink.new)) }
+    ensures ok { OnOk result ((seen : List ℕ) (first : Option (List ℕ)) → IsReportSoFar (way_in teller.old) teller.old.line.items (stand_of teller.old) seen first (K.held sink.old)
+        → IsReportSoFar (way_in teller.new) teller.new.line.items (stand_of teller.new) (seen ++ 10 ∷ []) first (K.held sink.new)) }
+    ensures err { OnErr result ((seen : List ℕ) (first : Option (List ℕ)) → IsReportSoFar (way_in teller.old) teller.old.line.items (stand_of teller.old) seen first (K.held sink.old)
+        → (taken : ℕ) × TellingWasStopped (way_in teller.old) (seen ++ take taken (10 ∷ [])) first (K.held sink.new)) }
     ensures way { way_in teller.new ≡ way_in teller.old }
     ensures stop { HasStop (K.faults sink.old) (K.faults sink.new) result }
 {
@@ -226,10 +226,10 @@ fn end_short<K: Sink>(teller: &mut Teller, sink: &mut K) -> Result<(), Stop>
 
 /// Takes a byte of the report.
 fn take_byte<K: Sink>(teller: &mut Teller, byte: u8, sink: &mut K) -> Result<(), Stop>
-    ensures ok { OnOk result ((seen : List ℕ) (first : Option (List ℕ)) → SoFar (way_in teller.old) teller.old.line.items (stand_of teller.old) seen first (K.held sink.old)
-        → SoFar (way_in teller.new) teller.new.line.items (stand_of teller.new) (seen ++ byte ∷ []) first (K.held sink.new)) }
-    ensures err { OnErr result ((seen : List ℕ) (first : Option (List ℕ)) → SoFar (way_in teller.old) teller.old.line.items (stand_of teller.old) seen first (K.held sink.old)
-        → (taken : ℕ) × Stopped (way_in teller.old) (seen ++ take taken (byte ∷ [])) first (K.held sink.new)) }
+    ensures ok { OnOk result ((seen : List ℕ) (first : Option (List ℕ)) → IsReportSoFar (way_in teller.old) teller.old.line.items (stand_of teller.old) seen first (K.held sink.old)
+        → IsReportSoFar (way_in teller.new) teller.new.line.items (stand_of teller.new) (seen ++ byte ∷ []) first (K.held sink.new)) }
+    ensures err { OnErr result ((seen : List ℕ) (first : Option (List ℕ)) → IsReportSoFar (way_in teller.old) teller.old.line.items (stand_of teller.old) seen first (K.held sink.old)
+        → (taken : ℕ) × TellingWasStopped (way_in teller.old) (seen ++ take taken (byte ∷ [])) first (K.held sink.new)) }
     ensures way { way_in teller.new ≡ way_in teller.old }
     ensures stop { HasStop (K.faults sink.old) (K.faults sink.new) result }
 {
@@ -244,10 +244,10 @@ fn take_byte<K: Sink>(teller: &mut Teller, byte: u8, sink: &mut K) -> Result<(),
 
 /// Takes bytes of the report.
 pub fn take_bytes<K: Sink>(teller: &mut Teller, bytes: &[u8], sink: &mut K) -> Result<(), Stop>
-    ensures ok { OnOk result ((seen : List ℕ) (first : Option (List ℕ)) → SoFar (way_in teller.old) teller.old.line.items (stand_of teller.old) seen first (K.held sink.old)
-        → SoFar (way_in teller.new) teller.new.line.items (stand_of teller.new) (seen ++ bytes.now) first (K.held sink.new)) }
-    ensures err { OnErr result ((seen : List ℕ) (first : Option (List ℕ)) → SoFar (way_in teller.old) teller.old.line.items (stand_of teller.old) seen first (K.held sink.old)
-        → (taken : ℕ) × Stopped (way_in teller.old) (seen ++ take taken bytes.now) first (K.held sink.new)) }
+    ensures ok { OnOk result ((seen : List ℕ) (first : Option (List ℕ)) → IsReportSoFar (way_in teller.old) teller.old.line.items (stand_of teller.old) seen first (K.held sink.old)
+        → IsReportSoFar (way_in teller.new) teller.new.line.items (stand_of teller.new) (seen ++ bytes.now) first (K.held sink.new)) }
+    ensures err { OnErr result ((seen : List ℕ) (first : Option (List ℕ)) → IsReportSoFar (way_in teller.old) teller.old.line.items (stand_of teller.old) seen first (K.held sink.old)
+        → (taken : ℕ) × TellingWasStopped (way_in teller.old) (seen ++ take taken bytes.now) first (K.held sink.new)) }
     ensures way { way_in teller.new ≡ way_in teller.old }
     ensures stop { HasStop (K.faults sink.old) (K.faults sink.new) result }
 {
@@ -262,10 +262,10 @@ pub fn take_bytes<K: Sink>(teller: &mut Teller, bytes: &[u8], sink: &mut K) -> R
 
 /// Hands on what stands behind the last newline.
 pub fn end<K: Sink>(teller: &mut Teller, sink: &mut K) -> Result<(), Stop>
-    ensures ok { OnOk result ((seen : List ℕ) (first : Option (List ℕ)) → SoFar (way_in teller.old) teller.old.line.items (stand_of teller.old) seen first (K.held sink.old)
+    ensures ok { OnOk result ((seen : List ℕ) (first : Option (List ℕ)) → IsReportSoFar (way_in teller.old) teller.old.line.items (stand_of teller.old) seen first (K.held sink.old)
         → Ended (way_in teller.old) seen first (K.held sink.new)) }
-    ensures err { OnErr result ((seen : List ℕ) (first : Option (List ℕ)) → SoFar (way_in teller.old) teller.old.line.items (stand_of teller.old) seen first (K.held sink.old)
-        → Stopped (way_in teller.old) seen first (K.held sink.new)) }
+    ensures err { OnErr result ((seen : List ℕ) (first : Option (List ℕ)) → IsReportSoFar (way_in teller.old) teller.old.line.items (stand_of teller.old) seen first (K.held sink.old)
+        → TellingWasStopped (way_in teller.old) seen first (K.held sink.new)) }
     ensures stop { HasStop (K.faults sink.old) (K.faults sink.new) result }
 {
     put_rest(sink, teller.all, teller.line.as_slice())

@@ -4,10 +4,10 @@ ghost use Rattle.std.specs.declared.option.Option.{Option};
 ghost use Rattle.std.specs.Io.KnownBytes.{Appends};
 ghost use Rattle.emv_ports.specs.Causes.{Rose};
 ghost use Rattle.emv_ports.specs.Growth.{AppendsFront};
-ghost use Rattle.explain.specs.Course.{SoFar, way_in, stand_of};
-ghost use Rattle.explain.specs.Grammar.{options_of};
-ghost use Rattle.explain.specs.Reading.{ReadAll, ReadSome, SourceCount, SinkCount, BrokenOffAsAsked, usage_line};
-ghost use Rattle.explain.specs.Told.{Explained, BrokenOff, Way, way_by, way_of, whole};
+ghost use Rattle.explain.specs.ReportSoFar.{IsReportSoFar, way_in, stand_of};
+ghost use Rattle.explain.specs.Grammar.{manner_of_words};
+ghost use Rattle.explain.specs.Reading.{ReadAll, ReadSome, TellingSourceCount, TellingSinkCount, BrokenOffAsAsked, explain_usage_line};
+ghost use Rattle.explain.specs.ToldLines.{Explained, BrokenOff, Way, way_by, way_of, whole_way};
 ghost use Rattle.narrator.specs.State.{Manner, seen_state, start};
 
 use crate::options::{NoOptions, Options, read_options};
@@ -15,8 +15,8 @@ use crate::told::{Stop, Teller, end, take_bytes};
 use arrayvec::ArrayVec;
 use emv_ports::{Failed, Sink, Source, write_all};
 use narrator::Narrator;
+use report_lines::WordLines;
 use std::alloc::{AllocError, Global};
-use word_lines::WordLines;
 
 /// The line that answers words which are not in the grammar.
 const USAGE: &[u8] =
@@ -42,13 +42,13 @@ fn read_through<S: Source, K: Sink>(
     source: &mut S,
     sink: &mut K,
 ) -> Result<(), Broken>
-    ensures ok { OnOk result ((first : Option (List ℕ)) → SoFar (way_in teller.old) teller.old.line.items (stand_of teller.old) [] first (K.held sink.old)
+    ensures ok { OnOk result ((first : Option (List ℕ)) → IsReportSoFar (way_in teller.old) teller.old.line.items (stand_of teller.old) [] first (K.held sink.old)
         → ReadAll (way_in teller.new) teller.new.line.items (stand_of teller.new) (S.left source.old) (S.left source.new) first (K.held sink.new)) }
-    ensures err { OnErr result ((first : Option (List ℕ)) → SoFar (way_in teller.old) teller.old.line.items (stand_of teller.old) [] first (K.held sink.old)
+    ensures err { OnErr result ((first : Option (List ℕ)) → IsReportSoFar (way_in teller.old) teller.old.line.items (stand_of teller.old) [] first (K.held sink.old)
         → ReadSome (way_in teller.old) (S.left source.old) (S.left source.new) first (K.held sink.new)) }
     ensures way { way_in teller.new ≡ way_in teller.old }
-    ensures source { SourceCount (S.faults source.old) (S.faults source.new) result }
-    ensures sink { SinkCount (K.faults sink.old) (K.faults sink.new) result }
+    ensures source { TellingSourceCount (S.faults source.old) (S.faults source.new) result }
+    ensures sink { TellingSinkCount (K.faults sink.old) (K.faults sink.new) result }
 {
     let mut chunk = [0u8; 4096];
     let mut left = MOST_READ;
@@ -77,8 +77,8 @@ fn explain<S: Source, K: Sink>(
     requires state { seen_state teller.old.narrator ≡ start }
     ensures ok { OnOk result (Explained (way_in teller.old) (S.left source.old) (S.left source.new) (K.held sink.old) (K.held sink.new)) }
     ensures err { OnErr result (BrokenOff (way_in teller.old) (S.left source.old) (S.left source.new) (K.held sink.old) (K.held sink.new)) }
-    ensures source { SourceCount (S.faults source.old) (S.faults source.new) result }
-    ensures sink { SinkCount (K.faults sink.old) (K.faults sink.new) result }
+    ensures source { TellingSourceCount (S.faults source.old) (S.faults source.new) result }
+    ensures sink { TellingSinkCount (K.faults sink.old) (K.faults sink.new) result }
 {
     match read_through(teller, source, sink) {
         Ok(()) => match end(teller, sink) {
@@ -117,8 +117,8 @@ fn explain_by<S: Source, K: Sink>(
 ) -> Result<(), Broken>
     ensures ok { OnOk result (Explained (way_of options) (S.left source.old) (S.left source.new) (K.held sink.old) (K.held sink.new)) }
     ensures err { OnErr result (BrokenOff (way_of options) (S.left source.old) (S.left source.new) (K.held sink.old) (K.held sink.new)) }
-    ensures source { SourceCount (S.faults source.old) (S.faults source.new) result }
-    ensures sink { SinkCount (K.faults sink.old) (K.faults sink.new) result }
+    ensures source { TellingSourceCount (S.faults source.old) (S.faults source.new) result }
+    ensures sink { TellingSinkCount (K.faults sink.old) (K.faults sink.new) result }
 {
     match begin(alloc, options) {
         Ok(teller) => {
@@ -131,8 +131,8 @@ fn explain_by<S: Source, K: Sink>(
 
 /// The usage line, and its status.
 fn answer_usage<K: Sink>(sink: &mut K) -> u8
-    ensures usage { result ≡ 2 → Appends (K.held sink.old) (K.held sink.new) usage_line }
-    ensures front { result ≡ 4 → AppendsFront (K.held sink.old) (K.held sink.new) usage_line }
+    ensures usage { result ≡ 2 → Appends (K.held sink.old) (K.held sink.new) explain_usage_line }
+    ensures front { result ≡ 4 → AppendsFront (K.held sink.old) (K.held sink.new) explain_usage_line }
     ensures fault { result ≡ 4 → Rose (K.faults sink.old) (K.faults sink.new) }
     ensures calm { result ≢ 4 → K.faults sink.new ≡ K.faults sink.old }
     ensures known { (result ≡ 2) ⊎ (result ≡ 4) }
@@ -151,11 +151,11 @@ pub fn run<S: Source, K: Sink>(alloc: Global, words: &[String], source: &mut S, 
     // 0: all that the source had left was read, and the sink got its lines in order and unchanged, each with
     // none or some lines of words that begin with two blanks, or left out by a filter, in the manner that the
     // words ask for. Without words none is left out.
-    ensures done { result ≡ 0 → (manner : Manner) × (options_of (map string_bytes words.now) ≡ Some manner) × (words.now ≡ [] → way_by manner ≡ whole)
+    ensures done { result ≡ 0 → (manner : Manner) × (manner_of_words (map string_bytes words.now) ≡ Some manner) × (words.now ≡ [] → way_by manner ≡ whole_way)
         × Explained (way_by manner) (S.left source.old) (S.left source.new) (K.held sink.old) (K.held sink.new) }
     // 2: the words are not in the grammar; the sink got the usage line, and nothing was read.
-    ensures outside { result ≡ 2 → options_of (map string_bytes words.now) ≡ None }
-    ensures usage { result ≡ 2 → Appends (K.held sink.old) (K.held sink.new) usage_line }
+    ensures outside { result ≡ 2 → manner_of_words (map string_bytes words.now) ≡ None }
+    ensures usage { result ≡ 2 → Appends (K.held sink.old) (K.held sink.new) explain_usage_line }
     ensures unread { result ≡ 2 → source.new ≡ source.old }
     // 3: the source failed, 4: the sink failed, 5: there was no memory. What the first bytes that were read
     // are explained as, in the manner that the words ask for, was written, or a front of it. Where the sink
@@ -165,7 +165,7 @@ pub fn run<S: Source, K: Sink>(alloc: Global, words: &[String], source: &mut S, 
     ensures read_front { result ≡ 3 → BrokenOffAsAsked (map string_bytes words.now) (S.left source.old) (S.left source.new) (K.held sink.old) (K.held sink.new) }
     ensures write_fault { result ≡ 4 → Rose (K.faults sink.old) (K.faults sink.new) }
     ensures write_front { result ≡ 4
-        → ((options_of (map string_bytes words.now) ≡ None) × (source.new ≡ source.old) × AppendsFront (K.held sink.old) (K.held sink.new) usage_line)
+        → ((manner_of_words (map string_bytes words.now) ≡ None) × (source.new ≡ source.old) × AppendsFront (K.held sink.old) (K.held sink.new) explain_usage_line)
         ⊎ BrokenOffAsAsked (map string_bytes words.now) (S.left source.old) (S.left source.new) (K.held sink.old) (K.held sink.new) }
     ensures memory { result ≡ 5 → ((source.new ≡ source.old) × (sink.new ≡ sink.old))
         ⊎ BrokenOffAsAsked (map string_bytes words.now) (S.left source.old) (S.left source.new) (K.held sink.old) (K.held sink.new) }

@@ -5,25 +5,25 @@ use Rattle.std.specs.List.{slice_index}
 use Rattle.std.proofs.lemmas.List.Elements.{All-cons, All-nil}
 use Rattle.ber_tlv.specs.Item.{byte_at, third_tag_byte, second_tag_byte, tag_at}
 use Rattle.card_files.specs.AppRules.{is_reference_pin, reference_pin}
-use Rattle.card_files.specs.Kept.{KeepsRules, AreApps, AreInSight, IsImage}
+use Rattle.card_files.specs.ImageRules.{KeepsRules, AreApps, AreInSight, IsImage}
 use Rattle.card_files.specs.Lists.{entries_within, is_cdol1, is_cdol2}
 use Rattle.card_files.specs.Views.{AppData}
 use Rattle.emv_dict.specs.Nibbles.{nibbles, packed}
 use Rattle.emv_dict.specs.Pan.{pan_field}
 use Rattle.issuer_host.specs.Account.{IsAccount}
-use Rattle.object_lists.specs.DolEntries.{entry_at, entries_from, entries_behind}
+use Rattle.object_lists.specs.DolEntries.{dol_entry_at, entries_from, entries_behind}
 use Rattle.pin_block.specs.Block.{block_of}
 use Rattle.scenario.specs.CardRules.{IsCard}
-use Rattle.scenario.specs.Cards.{app_with, opening_of}
+use Rattle.scenario.specs.Cards.{app_with, opening_state}
 use Rattle.scenario.specs.Plan.{HasPlainName}
 use Rattle.scenario_fields.specs.Value.{is_one_of}
 use Rattle.scenario_fields.specs.declared.spot.Characters.TheVariants.{LowercaseOrDigit}
 use Rattle.generated.proofs.Numbered.{digit_character}
-use Rattle.generated.specs.Card.{cdol1, cdol2, app_of, image_of, card_of, files_of, holder_record}
-use Rattle.generated.specs.Issuer.{account_of, pin}
+use Rattle.generated.specs.Card.{cdol1, cdol2, generated_app, generated_image, generated_card, generated_files, holder_record}
+use Rattle.generated.specs.Issuer.{generated_account, pin}
 
-pub account_rules : (card : ℕ) → IsAccount (account_of card)
-unfolding account_of
+pub account_rules : (card : ℕ) → IsAccount (generated_account card)
+unfolding generated_account
 account_rules card = record {
   account_number = refl;
   currency_code = refl;
@@ -36,19 +36,19 @@ account_rules card = record {
 }
 
 first_list : IsTrue (is_cdol1 cdol1)
-unfolding entries_within entry_at entries_from entries_behind byte_at third_tag_byte second_tag_byte tag_at
+unfolding entries_within dol_entry_at entries_from entries_behind byte_at third_tag_byte second_tag_byte tag_at
 first_list = refl
 
 second_list : IsTrue (is_cdol2 cdol2)
-unfolding entries_within entry_at entries_from entries_behind byte_at third_tag_byte second_tag_byte tag_at
+unfolding entries_within dol_entry_at entries_from entries_behind byte_at third_tag_byte second_tag_byte tag_at
 second_list = refl
 
 reference_block : IsTrue (is_reference_pin (reference_pin (Some pin)))
 unfolding block_of nibbles packed
 reference_block = refl
 
-app_rules : (card : ℕ) → KeepsRules (app_of card)
-unfolding app_of app_with files_of opening_of holder_record pan_field
+app_rules : (card : ℕ) → KeepsRules (generated_app card)
+unfolding generated_app app_with generated_files opening_state holder_record pan_field
 app_rules card = record {
   name = refl;
   label = refl;
@@ -74,11 +74,11 @@ app_rules card = record {
   opening = refl;
 }
 
-one_app : (card : ℕ) → AreApps (app_of card ∷ [])
+one_app : (card : ℕ) → AreApps (generated_app card ∷ [])
 one_app card = record {
   some = omega arith;
   few = omega arith;
-  rules = All-cons KeepsRules (app_of card) [] (app_rules card) (All-nil KeepsRules);
+  rules = All-cons KeepsRules (generated_app card) [] (app_rules card) (All-nil KeepsRules);
   names = λ i j d order within. absurd (omega (arith, order, within));
 }
 
@@ -86,29 +86,29 @@ one_app card = record {
 pub none_hidden : (apps : List AppData) → AreInSight None apps
 none_hidden apps = tt
 
-image_rules : (card : ℕ) → IsImage (image_of card)
-image_rules card = record { apps = one_app card; version = (omega arith, omega arith); directory = tt; sight = none_hidden (app_of card ∷ []) }
+image_rules : (card : ℕ) → IsImage (generated_image card)
+image_rules card = record { apps = one_app card; version = (omega arith, omega arith); directory = tt; sight = none_hidden (generated_app card ∷ []) }
 
-pub pushed_app : (card : ℕ) (old new : List AppData) (app : AppData) → old ≡ [] → new ≡ old ++ app ∷ [] → app ≡ app_of card → AreApps new
+pub pushed_app : (card : ℕ) (old new : List AppData) (app : AppData) → old ≡ [] → new ≡ old ++ app ∷ [] → app ≡ generated_app card → AreApps new
 pushed_app card old new app none pushed is = rw (pushed, none, is) (one_app card)
 
-pub card_rules : (card : ℕ) → IsCard (card_of card)
-unfolding card_of
+pub card_rules : (card : ℕ) → IsCard (generated_card card)
+unfolding generated_card
 card_rules card = record { some_name = omega arith; short_name = omega arith; kind = image_rules card }
 
 digit_plain : (digit : ℕ) → digit < 10 → IsTrue (is_one_of LowercaseOrDigit (48 + digit))
 digit_plain digit within = rw (digit_character digit within) refl
 
-pub plain_name : (card : ℕ) → card < 8 → HasPlainName (card_of card)
-unfolding card_of
+pub plain_name : (card : ℕ) → card < 8 → HasPlainName (generated_card card)
+unfolding generated_card
 plain_name card within =
     let Plain : ℕ → Type 0 = λ c. IsTrue (is_one_of LowercaseOrDigit c) in
     All-cons Plain 99 ((48 + card) ∷ []) refl (All-cons Plain (48 + card) [] (digit_plain card (omega (arith, within))) (All-nil Plain))
 
-pub own_pans : (i j : ℕ) → i < j → (account_of i).pan ≢ (account_of j).pan
-unfolding account_of
+pub own_pans : (i j : ℕ) → i < j → (generated_account i).pan ≢ (generated_account j).pan
+unfolding generated_account
 own_pans i j order same = let e : i ≡ j = ap (λ digits. slice_index digits 15) same in omega (arith, order, e)
 
-pub own_names : (i j : ℕ) → i < j → (card_of i).name ≢ (card_of j).name
-unfolding card_of
+pub own_names : (i j : ℕ) → i < j → (generated_card i).name ≢ (generated_card j).name
+unfolding generated_card
 own_names i j order same = let e : 48 + i ≡ 48 + j = ap (λ name. slice_index name 1) same in omega (arith, order, e)

@@ -13,8 +13,8 @@ use Rattle.scenario_lanes.specs.Plan.{IsLane, IsPlanned, HasCards}
 use Rattle.scenario_lanes.specs.declared.plan.Planned.{Planned}
 use Rattle.generated.proofs.Numbered.{digit_character}
 use Rattle.generated.proofs.Purchases.{planned_rules, no_choice, known_card}
-use Rattle.generated.specs.Lanes.{aid_row, settings_of, stands_on, purchases_of, lane_of}
-use Rattle.generated.specs.Numbers.{number_at}
+use Rattle.generated.specs.Lanes.{aid_row, generated_settings, stands_on, purchases_of, generated_lane}
+use Rattle.generated.specs.Numbers.{generated_number}
 use Rattle.generated.specs.Purchases.{planned_at, planned_by, LeavesNoChoice}
 
 aid_rules : IsAidRow aid_row
@@ -24,8 +24,8 @@ aid_rules = record { identifier = omega arith; floor_fits = omega arith; thresho
 digit_plain : (digit : ℕ) → digit < 10 → IsTrue (is_letter_or_digit (48 + digit))
 digit_plain digit within = rw (digit_character digit within) refl
 
-settings_rules : (lane : ℕ) → lane < 4 → IsSettings (settings_of lane)
-unfolding settings_of
+settings_rules : (lane : ℕ) → lane < 4 → IsSettings (generated_settings lane)
+unfolding generated_settings
 settings_rules lane within = record {
   least_kind = omega arith;
   most_kind = omega arith;
@@ -48,20 +48,20 @@ each_purchase P count lane holds =
     All-map P (planned_at count) (filter (stands_on lane) (range_with_len 0 count))
     (λ k d within. holds _)
 
-pub lane_rules : (count lane : ℕ) → lane < 4 → IsLane (lane_of count lane)
-unfolding lane_of
+pub lane_rules : (count lane : ℕ) → lane < 4 → IsLane (generated_lane count lane)
+unfolding generated_lane
 lane_rules count lane within = record {
   settings = settings_rules lane within;
-  purchases = each_purchase IsPlanned count lane (λ k. planned_rules k (number_at count (k + 1)));
+  purchases = each_purchase IsPlanned count lane (λ k. planned_rules k (generated_number count (k + 1)));
 }
 
-pub lane_cards : (count lane : ℕ) → HasCards 8 (lane_of count lane)
-unfolding lane_of
-lane_cards count lane = each_purchase (λ planned. planned.card < 8) count lane (λ k. known_card k (number_at count (k + 1)))
+pub lane_cards : (count lane : ℕ) → HasCards 8 (generated_lane count lane)
+unfolding generated_lane
+lane_cards count lane = each_purchase (λ planned. planned.card < 8) count lane (λ k. known_card k (generated_number count (k + 1)))
 
-pub lane_no_choice : (count lane : ℕ) → All (λ planned. IfSome planned.tear LeavesNoChoice) (lane_of count lane).purchases
-unfolding lane_of
-lane_no_choice count lane = each_purchase (λ planned. IfSome planned.tear LeavesNoChoice) count lane (λ k. no_choice k (number_at count (k + 1)))
+pub lane_no_choice : (count lane : ℕ) → All (λ planned. IfSome planned.tear LeavesNoChoice) (generated_lane count lane).purchases
+unfolding generated_lane
+lane_no_choice count lane = each_purchase (λ planned. IfSome planned.tear LeavesNoChoice) count lane (λ k. no_choice k (generated_number count (k + 1)))
 
 -- a purchase stands on one of the four lanes
 one_lane : (turn : ℕ) → turn < 4 → cond (turn == 0) 1 0 + cond (turn == 1) 1 0 + cond (turn == 2) 1 0 + cond (turn == 3) 1 0 ≡ 1
@@ -111,7 +111,7 @@ purchases_more count lane k =
 
 -- it stands on the lane
 pub purchase_taken : (count lane k x : ℕ) (old new : List Planned) (planned : Planned) → k % 4 ≡ lane → new ≡ old ++ planned ∷ [] → planned ≡ planned_by k x
-    → x ≡ number_at count (k + 1) → old ≡ map (planned_at count) (filter (stands_on lane) (range_with_len 0 k))
+    → x ≡ generated_number count (k + 1) → old ≡ map (planned_at count) (filter (stands_on lane) (range_with_len 0 k))
     → new ≡ map (planned_at count) (filter (stands_on lane) (range_with_len 0 (k + 1)))
 purchase_taken count lane k x old new planned on pushed is number made =
     let last : planned ≡ planned_at count k = is ∙ ap (planned_by k) number in

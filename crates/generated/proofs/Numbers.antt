@@ -1,7 +1,7 @@
 -- One number more.
 use Rattle.std.proofs.Common.{◌≡◌, ◌+◌, ℕ, suc, arith, ap}
-use Rattle.generated.specs.Numbers.{next_number, number_at}
+use Rattle.generated.specs.Numbers.{next_generated, generated_number}
 
-pub number_more : (seed k : ℕ) → number_at seed (k + 1) ≡ next_number (number_at seed k)
-unfolding number_at
-number_more seed k = let e : k + 1 ≡ suc k = omega arith in ap (number_at seed) e
+pub number_more : (seed k : ℕ) → generated_number seed (k + 1) ≡ next_generated (generated_number seed k)
+unfolding generated_number
+number_more seed k = let e : k + 1 ≡ suc k = omega arith in ap (generated_number seed) e

@@ -6,7 +6,7 @@ use Rattle.emv_dict.specs.Bcd.{two_digits}
 use Rattle.emv_dict.specs.Pan.{pan_field}
 use Rattle.scenario.specs.Cards.{FilesData, HolderData, CountersData, AccessData, CardData, app_with}
 use Rattle.scenario.specs.declared.extras.Extras.{Extras}
-use Rattle.generated.specs.Issuer.{issuer_keys, pan_of, code, pin}
+use Rattle.generated.specs.Issuer.{generated_keys, generated_pan, code, pin}
 
 -- the name of the application
 abbrev pub application : List ℕ
@@ -25,7 +25,7 @@ cdol2 = 0x8A ∷ 0x02 ∷ cdol1
 -- account number, its sequence number, the days of expiry and of effect, country, currency, usage and version
 unfoldable pub holder_record : ℕ → List ℕ
 holder_record card =
-    (0x70 ∷ 0x2E ∷ 0x5A ∷ 0x08 ∷ []) ++ pan_field (pan_of card)
+    (0x70 ∷ 0x2E ∷ 0x5A ∷ 0x08 ∷ []) ++ pan_field (generated_pan card)
     ++ (0x5F ∷ 0x34 ∷ 0x01 ∷ 0x01 ∷ 0x5F ∷ 0x24 ∷ 0x03 ∷ 0x26 ∷ 0x12 ∷ 0x31 ∷ 0x5F ∷ 0x25 ∷ 0x03 ∷ 0x24 ∷ 0x01 ∷ 0x01
     ∷ 0x5F ∷ 0x28 ∷ 0x02 ∷ 0x08 ∷ 0x40 ∷ 0x9F ∷ 0x42 ∷ 0x02 ∷ 0x08 ∷ 0x40 ∷ 0x9F ∷ 0x07 ∷ 0x02 ∷ 0xFF ∷ 0x00
     ∷ 0x9F ∷ 0x08 ∷ 0x02 ∷ 0x00 ∷ 0x96 ∷ [])
@@ -43,11 +43,11 @@ rules_record =
     ∷ 0x9F ∷ 0x0F ∷ 0x05 ∷ 0x70 ∷ 0x68 ∷ 0xBC ∷ 0x98 ∷ 0x00 ∷ 0x9F ∷ 0x14 ∷ 0x01 ∷ 0x05 ∷ 0x9F ∷ 0x23 ∷ 0x01 ∷ 0x09 ∷ []
 
 -- a record of the one file
-abbrev pub record_of : ℕ → List ℕ → RecordData
-record_of number bytes = record { sfi = 1; number = number; bytes = bytes }
+abbrev pub generated_record : ℕ → List ℕ → RecordData
+generated_record number bytes = record { sfi = 1; number = number; bytes = bytes }
 
-unfoldable pub files_of : ℕ → FilesData
-files_of card = record {
+unfoldable pub generated_files : ℕ → FilesData
+generated_files card = record {
   name = application;
   label = codes "CREDIT";
   priority = Some 1;
@@ -58,11 +58,11 @@ files_of card = record {
   ac_format = 1;
   cdol1 = cdol1;
   cdol2 = cdol2;
-  records = record_of 1 (holder_record card) ∷ record_of 2 lists_record ∷ record_of 3 rules_record ∷ [];
+  records = generated_record 1 (holder_record card) ∷ generated_record 2 lists_record ∷ generated_record 3 rules_record ∷ [];
 }
 
-abbrev pub holder_of : ℕ → HolderData
-holder_of card = record { pan = pan_of card; sequence = two_digits 1; currency = code }
+abbrev pub generated_holder : ℕ → HolderData
+generated_holder card = record { pan = generated_pan card; sequence = two_digits 1; currency = code }
 
 abbrev pub counters : CountersData
 counters = record { counter = 10; last_online = 9; count_limit = 5; sum_limit = 20000 }
@@ -75,13 +75,13 @@ abbrev pub extras : Extras
 extras = record { currency_two = None; limit_two = 0; log = 0; log_sfi = 11 }
 
 -- the one application of a card
-unfoldable pub app_of : ℕ → AppData
-app_of card = app_with issuer_keys (files_of card) (holder_of card) counters access extras
+unfoldable pub generated_app : ℕ → AppData
+generated_app card = app_with generated_keys (generated_files card) (generated_holder card) counters access extras
 
 -- the card has its state in today's form and no directory
-abbrev pub image_of : ℕ → ImageData
-image_of card = record { apps = app_of card ∷ []; version = 2; directory = None }
+abbrev pub generated_image : ℕ → ImageData
+generated_image card = record { apps = generated_app card ∷ []; version = 2; directory = None }
 
 -- `c0` and on
-unfoldable pub card_of : ℕ → CardData
-card_of card = record { name = codes "c" ++ (48 + card) ∷ []; image = image_of card; canned = None }
+unfoldable pub generated_card : ℕ → CardData
+generated_card card = record { name = codes "c" ++ (48 + card) ∷ []; image = generated_image card; canned = None }

@@ -4,8 +4,8 @@ use Rattle.issuer_host.specs.Account.{AccountData}
 use Rattle.issuer_host.specs.declared.account.Method.TheVariants.{One}
 use Rattle.issuer_host.specs.declared.keys.HostKeys.{HostKeys}
 
-unfoldable pub issuer_keys : HostKeys
-issuer_keys = record {
+unfoldable pub generated_keys : HostKeys
+generated_keys = record {
   ac = 0x01 ∷ 0x23 ∷ 0x45 ∷ 0x67 ∷ 0x89 ∷ 0xAB ∷ 0xCD ∷ 0xEF ∷ 0xFE ∷ 0xDC ∷ 0xBA ∷ 0x98 ∷ 0x76 ∷ 0x54 ∷ 0x32 ∷ 0x10 ∷ [];
   mac = 0x23 ∷ 0x45 ∷ 0x67 ∷ 0x89 ∷ 0xAB ∷ 0xCD ∷ 0xEF ∷ 0x01 ∷ 0xDC ∷ 0xBA ∷ 0x98 ∷ 0x76 ∷ 0x54 ∷ 0x32 ∷ 0x10 ∷ 0xFE ∷ [];
   enc = 0x45 ∷ 0x67 ∷ 0x89 ∷ 0xAB ∷ 0xCD ∷ 0xEF ∷ 0x01 ∷ 0x23 ∷ 0xBA ∷ 0x98 ∷ 0x76 ∷ 0x54 ∷ 0x32 ∷ 0x10 ∷ 0xFE ∷ 0xDC ∷ [];
@@ -13,8 +13,8 @@ issuer_keys = record {
 }
 
 -- the account number of a card, which ends with the card's number
-abbrev pub pan_of : ℕ → List ℕ
-pan_of card = 4 ∷ 7 ∷ 6 ∷ 1 ∷ 7 ∷ 3 ∷ 9 ∷ 0 ∷ 0 ∷ 1 ∷ 0 ∷ 1 ∷ 0 ∷ 0 ∷ 1 ∷ card ∷ []
+abbrev pub generated_pan : ℕ → List ℕ
+generated_pan card = 4 ∷ 7 ∷ 6 ∷ 1 ∷ 7 ∷ 3 ∷ 9 ∷ 0 ∷ 0 ∷ 1 ∷ 0 ∷ 1 ∷ 0 ∷ 0 ∷ 1 ∷ card ∷ []
 
 -- 840: the United States, and their dollar
 abbrev pub code : List ℕ
@@ -23,5 +23,5 @@ code = 0x08 ∷ 0x40 ∷ []
 abbrev pub pin : List ℕ
 pin = 1 ∷ 2 ∷ 3 ∷ 4 ∷ []
 
-unfoldable pub account_of : ℕ → AccountData
-account_of card = record { pan = pan_of card; currency = code; balance = 1000000; blocked = false; pin = Some pin; scripts = []; arpc = One; status = 0 }
+unfoldable pub generated_account : ℕ → AccountData
+generated_account card = record { pan = generated_pan card; currency = code; balance = 1000000; blocked = false; pin = Some pin; scripts = []; arpc = One; status = 0 }

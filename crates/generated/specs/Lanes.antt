@@ -6,7 +6,7 @@ use Rattle.emv_dict.specs.declared.purchase.AidRow.{AidRow}
 use Rattle.scenario_lanes.specs.Plan.{LaneData}
 use Rattle.scenario_lanes.specs.declared.plan.Planned.{Planned}
 use Rattle.generated.specs.Card.{application}
-use Rattle.generated.specs.Issuer.{issuer_keys, code}
+use Rattle.generated.specs.Issuer.{generated_keys, code}
 use Rattle.generated.specs.Purchases.{planned_at}
 
 abbrev pub lanes : ℕ
@@ -27,13 +27,13 @@ aid_row = record {
 }
 
 -- an attended terminal that can go online, `TERM0000` and on
-unfoldable pub settings_of : ℕ → SettingsData
-settings_of lane = record {
+unfoldable pub generated_settings : ℕ → SettingsData
+generated_settings lane = record {
   kind = 22;
   country = code;
   caps = 0xE0 ∷ 0xB8 ∷ 0xC8 ∷ [];
   id = codes "TERM000" ++ (48 + lane) ∷ [];
-  pin_key = issuer_keys.pin;
+  pin_key = generated_keys.pin;
   exceptions = [];
   aids = aid_row ∷ [];
   pse = false;
@@ -47,5 +47,5 @@ stands_on lane k = k % lanes == lane
 unfoldable pub purchases_of : ℕ → ℕ → List Planned
 purchases_of count lane = map (planned_at count) (filter (stands_on lane) (range_with_len 0 count))
 
-unfoldable pub lane_of : ℕ → ℕ → LaneData
-lane_of count lane = record { settings = settings_of lane; purchases = purchases_of count lane; iso = false; durable = false }
+unfoldable pub generated_lane : ℕ → ℕ → LaneData
+generated_lane count lane = record { settings = generated_settings lane; purchases = purchases_of count lane; iso = false; durable = false }

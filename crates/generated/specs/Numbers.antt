@@ -10,9 +10,9 @@ increment = 12345
 abbrev pub modulus : ℕ
 modulus = 2147483648
 
-abbrev pub next_number : ℕ → ℕ
-next_number x = (x * multiplier + increment) % modulus
+abbrev pub next_generated : ℕ → ℕ
+next_generated x = (x * multiplier + increment) % modulus
 
-unfoldable pub number_at : ℕ → ℕ → ℕ
-number_at seed zero = seed
-number_at seed (suc k) = next_number (number_at seed k)
+unfoldable pub generated_number : ℕ → ℕ → ℕ
+generated_number seed zero = seed
+generated_number seed (suc k) = next_generated (generated_number seed k)

@@ -8,7 +8,7 @@ use Rattle.scenario_lanes.specs.declared.plan.Link.{Link}
 use Rattle.scenario_lanes.specs.declared.plan.Link.TheVariants.{Sound, ReplyLost}
 use Rattle.scenario_lanes.specs.declared.plan.Planned.{Planned}
 use Rattle.generated.specs.Issuer.{code, pin}
-use Rattle.generated.specs.Numbers.{number_at}
+use Rattle.generated.specs.Numbers.{generated_number}
 
 -- how many cards there are, each with an account of its own
 abbrev pub cards : ℕ
@@ -49,7 +49,7 @@ planned_by k x = record { purchase = purchase_by x; card = k % cards; link = lin
 
 -- purchase `k` of so many, from 0 on
 abbrev pub planned_at : ℕ → ℕ → Planned
-planned_at count k = planned_by k (number_at count (k + 1))
+planned_at count k = planned_by k (generated_number count (k + 1))
 
 -- the tear leaves no choice: a decision is cut before its first write, so that nothing of it is left for a power-up to
 -- find

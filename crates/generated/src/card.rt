@@ -1,11 +1,11 @@
 //! The cards, each with one application.
 ghost use Rattle.std.specs.Prelude.{◌≡◌, ◌<◌, IfOk, map};
 ghost use Rattle.std.specs.List.{range_with_len};
-ghost use Rattle.scenario.specs.Cards.{opening_of};
+ghost use Rattle.scenario.specs.Cards.{opening_state};
 ghost use Rattle.scenario.specs.Seen.{seen_card, seen_cards};
-ghost use Rattle.generated.specs.Card.{application, holder_record, files_of, app_of, image_of, card_of};
+ghost use Rattle.generated.specs.Card.{application, holder_record, generated_files, generated_app, generated_image, generated_card};
 ghost use Rattle.generated.specs.Card as spec;
-ghost use Rattle.generated.specs.Issuer.{issuer_keys, pan_of, pin as pin_digits};
+ghost use Rattle.generated.specs.Issuer.{generated_keys, generated_pan, pin as pin_digits};
 ghost use Rattle.generated.specs.Purchases.{cards};
 
 use crate::issuer::{CARDS, CODE, pan, pin};
@@ -103,7 +103,7 @@ fn holder_record(alloc: Global, card: u8) -> Result<Vec<u8>, AllocError>
 
 /// A record of the one file.
 fn record(number: u8, bytes: Vec<u8>) -> RecordImage
-    ensures { result ≡ spec.record_of number bytes.items }
+    ensures { result ≡ spec.generated_record number bytes.items }
 {
     RecordImage {
         sfi: 1,
@@ -113,10 +113,10 @@ fn record(number: u8, bytes: Vec<u8>) -> RecordImage
 }
 
 /// The records of a card.
-#[tactic(auto, unfolding(crate::specs::Card::files_of))]
+#[tactic(auto, unfolding(crate::specs::Card::generated_files))]
 fn records(alloc: Global, card: u8) -> Result<Vec<RecordImage>, AllocError>
     requires { card < 8 }
-    ensures { IfOk result (λ records. records.items ≡ (files_of card).records) }
+    ensures { IfOk result (λ records. records.items ≡ (generated_files card).records) }
 {
     let mut records = Vec::with_capacity(alloc, 3)?;
     records.push(record(1, holder_record(alloc, card)?))?;
@@ -126,9 +126,9 @@ fn records(alloc: Global, card: u8) -> Result<Vec<RecordImage>, AllocError>
 }
 
 /// The state of the application before its first decision.
-#[tactic(auto, unfolding(scenario::specs::Cards::opening_of))]
+#[tactic(auto, unfolding(scenario::specs::Cards::opening_state))]
 fn opening() -> AppState
-    ensures { result ≡ opening_of spec.counters spec.access spec.extras }
+    ensures { result ≡ opening_state spec.counters spec.access spec.extras }
 {
     let pin = reference_pin(&Some(pin()));
     AppState {
@@ -150,11 +150,11 @@ fn opening() -> AppState
 }
 
 /// The application of a card; its keys are derived from the issuer's.
-#[tactic(auto, unfolding(crate::specs::Card::app_of, crate::specs::Card::files_of, scenario::specs::Cards::app_with))]
+#[tactic(auto, unfolding(crate::specs::Card::generated_app, crate::specs::Card::generated_files, scenario::specs::Cards::app_with))]
 fn app(alloc: Global, issuer: &HostKeys, card: u8) -> Result<AppImage, AllocError>
-    requires issuer { issuer.now ≡ issuer_keys }
+    requires issuer { issuer.now ≡ generated_keys }
     requires card { card < 8 }
-    ensures { IfOk result (λ app. app ≡ app_of card) }
+    ensures { IfOk result (λ app. app ≡ generated_app card) }
 {
     let label = Vec::from_slice(alloc, b"CREDIT")?;
     let afl = Vec::from_slice(alloc, &AFL)?;
@@ -195,9 +195,9 @@ fn app(alloc: Global, issuer: &HostKeys, card: u8) -> Result<AppImage, AllocErro
 
 /// The image of a card: its one application, with its state in today's form and no directory.
 fn image(alloc: Global, issuer: &HostKeys, card: u8) -> Result<Image, AllocError>
-    requires issuer { issuer.now ≡ issuer_keys }
+    requires issuer { issuer.now ≡ generated_keys }
     requires card { card < 8 }
-    ensures { IfOk result (λ image. image ≡ image_of card) }
+    ensures { IfOk result (λ image. image ≡ generated_image card) }
 {
     let mut apps = Vec::with_capacity(alloc, 1)?;
     apps.push(app(alloc, issuer, card)?)?;
@@ -208,11 +208,11 @@ fn image(alloc: Global, issuer: &HostKeys, card: u8) -> Result<Image, AllocError
 }
 
 /// A card with its name, `c0` and on.
-#[tactic(auto, unfolding(crate::specs::Card::card_of, scenario::specs::Seen::seen_card))]
+#[tactic(auto, unfolding(crate::specs::Card::generated_card, scenario::specs::Seen::seen_card))]
 fn card(alloc: Global, issuer: &HostKeys, number: u8) -> Result<NamedCard, AllocError>
-    requires issuer { issuer.now ≡ issuer_keys }
+    requires issuer { issuer.now ≡ generated_keys }
     requires card { number < 8 }
-    ensures { IfOk result (λ card. seen_card card ≡ card_of number) }
+    ensures { IfOk result (λ card. seen_card card ≡ generated_card number) }
 {
     let name = Vec::from_slice(alloc, &[b'c', b'0' + number])?;
     let image = image(alloc, issuer, number)?;
@@ -224,8 +224,8 @@ fn card(alloc: Global, issuer: &HostKeys, number: u8) -> Result<NamedCard, Alloc
 
 /// All cards.
 pub(crate) fn cards(alloc: Global, issuer: &HostKeys) -> Result<Vec<NamedCard>, AllocError>
-    requires { issuer.now ≡ issuer_keys }
-    ensures { IfOk result (λ all. seen_cards all.items ≡ map card_of (range_with_len 0 cards)) }
+    requires { issuer.now ≡ generated_keys }
+    ensures { IfOk result (λ all. seen_cards all.items ≡ map generated_card (range_with_len 0 cards)) }
 {
     let mut cards = Vec::with_capacity(alloc, usize::from(CARDS))?;
     for number in 0..CARDS {

@@ -2,7 +2,7 @@
 ghost use Rattle.std.specs.Prelude.{◌≡◌, ◌<◌, IfOk, map};
 ghost use Rattle.std.specs.List.{range_with_len};
 ghost use Rattle.emv_dict.specs.Digits.{AreDigits};
-ghost use Rattle.generated.specs.Issuer.{issuer_keys, pan_of, pin as pin_digits, account_of};
+ghost use Rattle.generated.specs.Issuer.{generated_keys, generated_pan, pin as pin_digits, generated_account};
 ghost use Rattle.generated.specs.Purchases.{cards};
 
 use emv_dict::Digits;
@@ -46,9 +46,9 @@ const PIN: [u8; 4] = [1, 2, 3, 4];
 const BALANCE: u64 = 1_000_000;
 
 /// The issuer's keys.
-#[tactic(auto, unfolding(crate::specs::Issuer::issuer_keys))]
+#[tactic(auto, unfolding(crate::specs::Issuer::generated_keys))]
 pub(crate) fn issuer_keys() -> HostKeys
-    ensures { result ≡ issuer_keys }
+    ensures { result ≡ generated_keys }
 {
     HostKeys {
         ac: Key16::new(AC_KEY),
@@ -71,7 +71,7 @@ fn digits(numbers: &[u8]) -> Digits
 /// The account number of a card.
 pub(crate) fn pan(card: u8) -> Digits
     requires { card < 8 }
-    ensures { result ≡ pan_of card }
+    ensures { result ≡ generated_pan card }
 {
     let mut pan = digits(&PAN_FRONT);
     pan.push(card);
@@ -86,10 +86,10 @@ pub(crate) fn pin() -> Digits
 }
 
 /// The account of a card.
-#[tactic(auto, unfolding(crate::specs::Issuer::account_of))]
+#[tactic(auto, unfolding(crate::specs::Issuer::generated_account))]
 fn account(alloc: Global, card: u8) -> Account
     requires { card < 8 }
-    ensures { result ≡ account_of card }
+    ensures { result ≡ generated_account card }
 {
     Account {
         pan: pan(card),
@@ -105,7 +105,7 @@ fn account(alloc: Global, card: u8) -> Account
 
 /// The accounts of all cards.
 pub(crate) fn accounts(alloc: Global) -> Result<Vec<Account>, AllocError>
-    ensures { IfOk result (λ accounts. accounts.items ≡ map account_of (range_with_len 0 cards)) }
+    ensures { IfOk result (λ accounts. accounts.items ≡ map generated_account (range_with_len 0 cards)) }
 {
     let mut accounts = Vec::with_capacity(alloc, usize::from(CARDS))?;
     for card in 0..CARDS {

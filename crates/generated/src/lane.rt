@@ -1,9 +1,9 @@
 //! The lanes: their terminals and the purchases on them.
 ghost use Rattle.std.specs.Prelude.{◌≡◌, ◌<◌, ◌≤◌, [], ◌∷◌, IfOk, map};
 ghost use Rattle.std.specs.List.{range_with_len};
-ghost use Rattle.generated.specs.Issuer.{issuer_keys};
+ghost use Rattle.generated.specs.Issuer.{generated_keys};
 ghost use Rattle.generated.specs.Lanes as spec;
-ghost use Rattle.generated.specs.Lanes.{aid_row, settings_of, purchases_of, lane_of};
+ghost use Rattle.generated.specs.Lanes.{aid_row, generated_settings, purchases_of, generated_lane};
 
 use crate::card::application;
 use crate::issuer::CODE;
@@ -36,11 +36,11 @@ fn aid_row() -> AidRow
 }
 
 /// The settings of a lane's terminal, `TERM0000` and on: attended, and it can go online.
-#[tactic(auto, unfolding(crate::specs::Lanes::settings_of))]
+#[tactic(auto, unfolding(crate::specs::Lanes::generated_settings))]
 fn settings(alloc: Global, issuer: &HostKeys, lane: u32) -> Result<Settings, AllocError>
-    requires issuer { issuer.now ≡ issuer_keys }
+    requires issuer { issuer.now ≡ generated_keys }
     requires lane { lane < 4 }
-    ensures { IfOk result (λ settings. settings ≡ settings_of lane) }
+    ensures { IfOk result (λ settings. settings ≡ generated_settings lane) }
 {
     let mut aids = Vec::with_capacity(alloc, 1)?;
     aids.push(aid_row())?;
@@ -57,7 +57,7 @@ fn settings(alloc: Global, issuer: &HostKeys, lane: u32) -> Result<Settings, All
 }
 
 /// The purchases of a lane, out of so many of all lanes.
-#[tactic(auto, unfolding(crate::specs::Lanes::purchases_of, crate::specs::Numbers::number_at))]
+#[tactic(auto, unfolding(crate::specs::Lanes::purchases_of, crate::specs::Numbers::generated_number))]
 fn purchases(alloc: Global, count: u32, lane: u32) -> Result<Vec<Planned>, AllocError>
     requires count { count ≤ 10000 }
     ensures { IfOk result (λ purchases. purchases.items ≡ purchases_of count lane) }
@@ -74,12 +74,12 @@ fn purchases(alloc: Global, count: u32, lane: u32) -> Result<Vec<Planned>, Alloc
 }
 
 /// A lane with its purchases, out of so many of all lanes.
-#[tactic(auto, unfolding(crate::specs::Lanes::lane_of))]
+#[tactic(auto, unfolding(crate::specs::Lanes::generated_lane))]
 fn lane(alloc: Global, issuer: &HostKeys, count: u32, number: u32) -> Result<Lane, AllocError>
-    requires issuer { issuer.now ≡ issuer_keys }
+    requires issuer { issuer.now ≡ generated_keys }
     requires count { count ≤ 10000 }
     requires lane { number < 4 }
-    ensures { IfOk result (λ lane. lane ≡ lane_of count number) }
+    ensures { IfOk result (λ lane. lane ≡ generated_lane count number) }
 {
     let settings = settings(alloc, issuer, number)?;
     let purchases = purchases(alloc, count, number)?;
@@ -93,9 +93,9 @@ fn lane(alloc: Global, issuer: &HostKeys, count: u32, number: u32) -> Result<Lan
 
 /// All lanes, with so many purchases together.
 pub(crate) fn lanes(alloc: Global, issuer: &HostKeys, count: u32) -> Result<Vec<Lane>, AllocError>
-    requires issuer { issuer.now ≡ issuer_keys }
+    requires issuer { issuer.now ≡ generated_keys }
     requires count { count ≤ 10000 }
-    ensures { IfOk result (λ all. all.items ≡ map (lane_of count) (range_with_len 0 spec.lanes)) }
+    ensures { IfOk result (λ all. all.items ≡ map (generated_lane count) (range_with_len 0 spec.lanes)) }
 {
     let mut lanes = Vec::with_capacity(alloc, LANES as usize)?;
     for number in 0..LANES {

@@ -24,7 +24,7 @@ const CUT_COMMIT: u8 = 4;
 
 /// The number behind this one.
 pub(crate) fn next_number(x: u32) -> u32
-    ensures { result ≡ numbers.next_number x }
+    ensures { result ≡ numbers.next_generated x }
 {
     ((u64::from(x) * MULTIPLIER + INCREMENT) % MODULUS) as u32
 }

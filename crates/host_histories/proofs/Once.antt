@@ -17,7 +17,7 @@ use Rattle.issuer_host.specs.declared.keys.HostKeys.{HostKeys}
 use Rattle.issuer_host.specs.Account.{AccountData}
 use Rattle.issuer_host.specs.Balance.{is_booked}
 use Rattle.host_histories.specs.BookedOnce.{books_after, IsBooking, TakesAmount, BookedOnce}
-use Rattle.issuer_host.specs.Books.{Kept, Books, no_books, kept_at, was_approved}
+use Rattle.issuer_host.specs.Books.{KeptCall, Books, no_books, kept_at, was_approved}
 use Rattle.issuer_host.specs.Code.{is_approved}
 use Rattle.issuer_host.specs.History.{books_with, books_from, books_of, kept_in, with_first}
 use Rattle.issuer_host.specs.Records.{amount_of}
@@ -25,18 +25,18 @@ use Rattle.issuer_host.specs.Reply.{present_key, new_present}
 use Rattle.issuer_host.proofs.Histories.{books_grow}
 use Rattle.issuer_host.proofs.Totals.{last_or_found, kept_last}
 
-found_stays : (key : Key) (messages : List Kept) (new kept : Kept) (r : Option Kept) → kept_at key messages ≡ Some kept → kept_at key (with_first r new messages) ≡ Some kept
+found_stays : (key : Key) (messages : List KeptCall) (new kept : KeptCall) (r : Option KeptCall) → kept_at key messages ≡ Some kept → kept_at key (with_first r new messages) ≡ Some kept
 found_stays key messages new kept None is = kept_last key messages new ∙ ap (last_or_found key new) is
 found_stays key messages new kept (Some other) is = is
 
-kept_stays : (keys : HostKeys) (accounts : List AccountData) (books : Books) (message : List ℕ) (key : Key) (kept : Kept) (reading : Result Incoming MessageFault)
+kept_stays : (keys : HostKeys) (accounts : List AccountData) (books : Books) (message : List ℕ) (key : Key) (kept : KeptCall) (reading : Result Incoming MessageFault)
     → kept_at key books.presentments ≡ Some kept → kept_at key (kept_in keys accounts books message reading).presentments ≡ Some kept
 kept_stays keys accounts books message key kept (Err fault) is = is
 kept_stays keys accounts books message key kept (Ok (Request f)) is = is
 kept_stays keys accounts books message key kept (Ok (Present f)) is = found_stays key books.presentments (new_present keys accounts books message f) kept (kept_at (present_key f) books.presentments) is
 kept_stays keys accounts books message key kept (Ok (Reverse f)) is = is
 
-presentment_stays : (keys : HostKeys) (accounts : List AccountData) (books : Books) (messages : List (List ℕ)) (key : Key) (kept : Kept)
+presentment_stays : (keys : HostKeys) (accounts : List AccountData) (books : Books) (messages : List (List ℕ)) (key : Key) (kept : KeptCall)
     → kept_at key books.presentments ≡ Some kept → kept_at key (books_from keys accounts books messages).presentments ≡ Some kept
 unfolding books_with
 presentment_stays keys accounts books [] key kept is = is
@@ -48,7 +48,7 @@ books_joined keys accounts books [] rest = refl
 books_joined keys accounts books (message ∷ front) rest = books_joined keys accounts (books_with keys accounts books message) front rest
 
 -- a presentment that was kept after some of the messages is kept from then on
-from_then_on : (keys : HostKeys) (accounts : List AccountData) (messages : List (List ℕ)) (key : Key) (kept : Kept) (i j : ℕ) → i ≤ j
+from_then_on : (keys : HostKeys) (accounts : List AccountData) (messages : List (List ℕ)) (key : Key) (kept : KeptCall) (i j : ℕ) → i ≤ j
     → kept_at key (books_after keys accounts messages i).presentments ≡ Some kept → kept_at key (books_after keys accounts messages j).presentments ≡ Some kept
 from_then_on keys accounts messages key kept i j before is =
     let count : i + (j - i) ≡ j = omega arith in
@@ -58,25 +58,25 @@ from_then_on keys accounts messages key kept i j before is =
     ap (λ (b : Books). kept_at key b.presentments) joined ∙ presentment_stays keys accounts (books_after keys accounts messages i) (take (j - i) (drop i messages)) key kept is
 
 -- a presentment of the transaction that was approved
-record Booking (key : Key) (books : Books) (kept : Kept) : Type 0 where
+record Booking (key : Key) (books : Books) (kept : KeptCall) : Type 0 where
   found : kept_at key books.presentments ≡ Some kept
   approved : is_approved kept.code ≡ true
 
-booking_found : (key : Key) (books : Books) → is_booked books key ≡ true → (kept : Kept) × Booking key books kept
+booking_found : (key : Key) (books : Books) → is_booked books key ≡ true → (kept : KeptCall) × Booking key books kept
 booking_found key books is = by (kept_at key books.presentments) refl is
   where
-    by : (r : Option Kept) → kept_at key books.presentments ≡ r → was_approved r ≡ true → (kept : Kept) × Booking key books kept
+    by : (r : Option KeptCall) → kept_at key books.presentments ≡ r → was_approved r ≡ true → (kept : KeptCall) × Booking key books kept
     by None found is = cc
     by (Some kept) found is = (kept, record { found = found; approved = is })
 
-booking_stays : (keys : HostKeys) (accounts : List AccountData) (messages : List (List ℕ)) (key : Key) (kept : Kept) (i j : ℕ) → i ≤ j
+booking_stays : (keys : HostKeys) (accounts : List AccountData) (messages : List (List ℕ)) (key : Key) (kept : KeptCall) (i j : ℕ) → i ≤ j
     → Booking key (books_after keys accounts messages i) kept → Booking key (books_after keys accounts messages j) kept
 booking_stays keys accounts messages key kept i j before booking = record { found = from_then_on keys accounts messages key kept i j before booking.found; approved = booking.approved }
 
-booking_books : (key : Key) (books : Books) (kept : Kept) → Booking key books kept → is_booked books key ≡ true
+booking_books : (key : Key) (books : Books) (kept : KeptCall) → Booking key books kept → is_booked books key ≡ true
 booking_books key books kept booking = ap was_approved booking.found ∙ booking.approved
 
-booking_amount : (key : Key) (books : Books) (kept : Kept) → Booking key books kept → amount_of books key ≡ kept.amount
+booking_amount : (key : Key) (books : Books) (kept : KeptCall) → Booking key books kept → amount_of books key ≡ kept.amount
 booking_amount key books kept booking = rw (booking.found, booking.approved) refl
 
 earlier : (keys : HostKeys) (accounts : List AccountData) (messages : List (List ℕ)) (key : Key) (i j : ℕ) → i < j → IsBooking keys accounts messages key i → IsBooking keys accounts messages key j → ⊥
@@ -97,12 +97,12 @@ booked_once keys accounts messages key i j one other = elim (cases_eq i j) [
     by false is differ = let behind : j ≤ i = grind (arith, nat_tests) in let before : j < i = omega arith in earlier keys accounts messages key j i before other one
 
 -- where a transaction is booked that was not, the new message is its presentment
-record IsNew (key : Key) (messages : List Kept) (new : Kept) : Type 0 where
+record IsNew (key : Key) (messages : List KeptCall) (new : KeptCall) : Type 0 where
   own : new.key ≡ key
   found : kept_at key messages ≡ Some new
   approved : is_approved new.code ≡ true
 
-new_books : (key : Key) (messages : List Kept) (new : Kept) (r found : Option Kept) → kept_at key messages ≡ found → was_approved found ≡ false → was_approved (kept_at key (with_first r new messages)) ≡ true
+new_books : (key : Key) (messages : List KeptCall) (new : KeptCall) (r found : Option KeptCall) → kept_at key messages ≡ found → was_approved found ≡ false → was_approved (kept_at key (with_first r new messages)) ≡ true
     → IsNew key (with_first r new messages) new
 new_books key messages new (Some other) found is before after = let again : was_approved (kept_at key messages) ≡ false = ap was_approved is ∙ before in cc
 new_books key messages new None (Some kept) is before after = let again : was_approved (kept_at key (messages ++ new ∷ [])) ≡ false = ap was_approved (kept_last key messages new ∙ ap (last_or_found key new) is) ∙ before in cc

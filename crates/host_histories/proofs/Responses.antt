@@ -5,7 +5,7 @@ use Rattle.auth_message.specs.Data.{RequestData}
 use Rattle.host_histories.specs.Responses.{Responds, StatusSays, ResponsesAreRight}
 use Rattle.issuer_host.specs.Account.{AccountData}
 use Rattle.issuer_host.specs.Books.{Books}
-use Rattle.issuer_host.specs.Reply.{Said, request_key, session_of, request_is_genuine, request_code, response_of, online_reply, plain}
+use Rattle.issuer_host.specs.Reply.{ReplySaid, request_key, session_of, request_is_genuine, request_code, keyed_response, online_reply, code_alone}
 use Rattle.issuer_host.specs.Response.{status_for, is_right_response}
 use Rattle.issuer_host.specs.declared.code.Code.{Code}
 use Rattle.issuer_host.specs.declared.code.Code.TheVariants.{Approved, Declined, UnknownAccount, NoFunds, Expired, WrongPin}
@@ -13,8 +13,8 @@ use Rattle.issuer_host.specs.declared.keys.HostKeys.{HostKeys}
 use Rattle.issuer_host.proofs.Responses.{status_small, response_is_right}
 
 -- what is said where the request is genuine, and where it isn't
-abbrev said : HostKeys → AccountData → Books → RequestData → Bool → Said
-said keys account books f genuine = (if genuine then online_reply keys account books f (request_code keys account books f) else plain Declined)
+abbrev said : HostKeys → AccountData → Books → RequestData → Bool → ReplySaid
+said keys account books f genuine = (if genuine then online_reply keys account books f (request_code keys account books f) else code_alone Declined)
 
 given : (keys : HostKeys) (account : AccountData) (books : Books) (f : RequestData) (genuine : Bool) → is_some (said keys account books f genuine).auth ≡ genuine
 given keys account books f true = refl

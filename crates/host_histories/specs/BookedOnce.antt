@@ -9,7 +9,7 @@ use Rattle.host_ledger.specs.declared.entry.Entry.{Entry}
 use Rattle.host_ledger.specs.declared.key.Key.{Key}
 use Rattle.issuer_host.specs.declared.keys.HostKeys.{HostKeys}
 use Rattle.issuer_host.specs.Account.{AccountData}
-use Rattle.issuer_host.specs.Balance.{is_booked, account_of}
+use Rattle.issuer_host.specs.Balance.{is_booked, account_with_pan}
 use Rattle.issuer_host.specs.Books.{Books}
 use Rattle.issuer_host.specs.History.{books_of, balance_after}
 use Rattle.issuer_host.specs.Records.{amount_of}
@@ -44,16 +44,16 @@ pub record BookedOnce : Type 0 where
       → IsBooking keys accounts messages key place → TakesAmount keys accounts messages key place
 
 -- no two of the entries are of one transaction
-abbrev pub AreApart : List Entry → Type 0
-AreApart [] = Unit {0}
-AreApart (entry ∷ entries) = (entry_at entry.key entries ≡ None) × AreApart entries
+abbrev pub AreOfApartKeys : List Entry → Type 0
+AreOfApartKeys [] = Unit {0}
+AreOfApartKeys (entry ∷ entries) = (entry_at entry.key entries ≡ None) × AreOfApartKeys entries
 
 -- these are the transactions of the messages, each once with its amount, and a balance is the opening one
 -- less the amounts of its account number's
 pub record AddUp (keys : HostKeys) (accounts : List AccountData) (messages : List (List ℕ)) (entries : List Entry) : Type 0 where
-  pub apart : AreApart entries
+  pub apart : AreOfApartKeys entries
   pub amounts : (key : Key) → taken_at (entry_at key entries) ≡ amount_of (books_of keys accounts messages) key
-  pub balances : (pan : List ℕ) → balance_after keys accounts messages pan ≡ option_map (λ account. pos account.balance -ℤ pos (taken_from pan entries)) (account_of pan accounts)
+  pub balances : (pan : List ℕ) → balance_after keys accounts messages pan ≡ option_map (λ account. pos account.balance -ℤ pos (taken_from pan entries)) (account_with_pan pan accounts)
 
 -- whatever the messages
 abbrev pub BalancesAddUp : Type 0

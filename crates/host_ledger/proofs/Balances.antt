@@ -8,23 +8,23 @@ use Rattle.emv_dict.specs.Settings.{most_amount}
 use Rattle.host_ledger.specs.declared.accounts.Account.{Account}
 use Rattle.host_ledger.specs.declared.key.Key.{Key}
 use Rattle.host_ledger.specs.declared.entry.Entry.{Entry}
-use Rattle.host_ledger.specs.Account.{account_at, with_account, opened, IsBalanced, AreBalanced}
-use Rattle.host_ledger.specs.Accounts.{LedgerData, opening_of, balance_of, Keeps}
-use Rattle.host_ledger.specs.Refusals.{Answers}
+use Rattle.host_ledger.specs.Account.{account_at, with_account, with_opening_balance, IsBalanced, AreBalanced}
+use Rattle.host_ledger.specs.Accounts.{LedgerData, opening_balance_of, balance_of, KeepsEntry}
+use Rattle.host_ledger.specs.Refusals.{AnswersRefusal}
 use Rattle.host_ledger.specs.declared.fault.LedgerFault.{LedgerFault}
 use Rattle.host_ledger.specs.declared.fault.LedgerFault.TheVariants.{OutOfMemory}
-use Rattle.host_ledger.specs.Entries.{entry_at, with_entry, taken, taken_at, taken_from}
+use Rattle.host_ledger.specs.Entries.{entry_at, with_entry, amount_taken, taken_at, taken_from}
 use Rattle.host_ledger.proofs.Keys.{same_pan, own_pan}
 use Rattle.host_ledger.proofs.Sums.{own_sum, other_sum, all_small, found_again, others_again}
 
 -- what a contract sees of these accounts and entries
 abbrev pub seen : List (List ℕ × Account) → List Entry → LedgerData
-seen accounts entries = record { accounts = map opened accounts; entries = entries }
+seen accounts entries = record { accounts = map with_opening_balance accounts; entries = entries }
 
-pub opening_found : (pan : List ℕ) (es : List (List ℕ × Account)) → opening_of pan (map opened es) ≡ option_map (λ a. a.opening) (account_at pan es)
+pub opening_found : (pan : List ℕ) (es : List (List ℕ × Account)) → opening_balance_of pan (map with_opening_balance es) ≡ option_map (λ a. a.opening) (account_at pan es)
 opening_found pan [] = refl
 opening_found pan (e ∷ es) =
-    elim (bytes_eq pan e.0) as (λ b. cond b (Some e.1.opening) (opening_of pan (map opened es)) ≡ option_map (λ a. a.opening) (cond b (Some e.1) (account_at pan es))) [
+    elim (bytes_eq pan e.0) as (λ b. cond b (Some e.1.opening) (opening_balance_of pan (map with_opening_balance es)) ≡ option_map (λ a. a.opening) (cond b (Some e.1) (account_at pan es))) [
       | true ↦ refl
       | false ↦ opening_found pan es
     ]
@@ -66,18 +66,18 @@ account_again p pan a (e ∷ es) = by (account_again p pan a es) (bytes_eq pan e
         (λ u v. let h : bytes_eq pan e.0 ≡ true = ap (λ x. bytes_eq x e.0) (sym (same_pan p pan v)) ∙ u in absurd cc)
 
 -- another balance leaves what the accounts opened with
-pub opened_same : (pan : List ℕ) (a b : Account) (es : List (List ℕ × Account)) → account_at pan es ≡ Some b → a.opening ≡ b.opening → map opened (with_account pan a es) ≡ map opened es
+pub opened_same : (pan : List ℕ) (a b : Account) (es : List (List ℕ × Account)) → account_at pan es ≡ Some b → a.opening ≡ b.opening → map with_opening_balance (with_account pan a es) ≡ map with_opening_balance es
 opened_same pan a b [] h same = absurd cc
 opened_same pan a b (e ∷ es) h same = by (λ there. opened_same pan a b es there same) (bytes_eq pan e.0) h
   where
-    by : (account_at pan es ≡ Some b → map opened (with_account pan a es) ≡ map opened es) → (t : Bool) → cond t (Some e.1) (account_at pan es) ≡ Some b → map opened (cond t ((e.0, a) ∷ es) (e ∷ with_account pan a es)) ≡ map opened (e ∷ es)
-    by behind true h = let one : e.1 ≡ b = cc in ap (λ n. (e.0, n) ∷ map opened es) (same ∙ ap (λ x. x.opening) (sym one))
-    by behind false h = ap (λ l. opened e ∷ l) (behind h)
+    by : (account_at pan es ≡ Some b → map with_opening_balance (with_account pan a es) ≡ map with_opening_balance es) → (t : Bool) → cond t (Some e.1) (account_at pan es) ≡ Some b → map with_opening_balance (cond t ((e.0, a) ∷ es) (e ∷ with_account pan a es)) ≡ map with_opening_balance (e ∷ es)
+    by behind true h = let one : e.1 ≡ b = cc in ap (λ n. (e.0, n) ∷ map with_opening_balance es) (same ∙ ap (λ x. x.opening) (sym one))
+    by behind false h = ap (λ l. with_opening_balance e ∷ l) (behind h)
 
 -- the account's balance has moved by what the entry takes in place of the one before
 pub balanced_again : (accounts : List (List ℕ × Account)) (entries : List Entry) (account : Account) (kept : Entry) (balance : ℤ)
     → account_at kept.key.pan accounts ≡ Some account → AreBalanced accounts entries → kept.amount ≤ most_amount
-    → balance ≡ (account.balance +ℤ pos (taken_at (entry_at kept.key entries))) -ℤ pos (taken kept.state kept.amount)
+    → balance ≡ (account.balance +ℤ pos (taken_at (entry_at kept.key entries))) -ℤ pos (amount_taken kept.state kept.amount)
     → AreBalanced (with_account kept.key.pan (record { opening = account.opening; balance = balance }) accounts) (with_entry kept entries)
 balanced_again accounts entries account kept balance known old small is = record { each = each; amounts = All-from_recursion _ _ (all_small kept entries small (recursion_from_All _ _ old.amounts)) }
   where
@@ -101,7 +101,7 @@ balanced_again accounts entries account kept balance known old small is = record
     each : (pan : List ℕ) (a : Account) → account_at pan (with_account kept.key.pan (record { opening = account.opening; balance = balance }) accounts) ≡ Some a → IsBalanced (with_entry kept entries) pan a
     each pan a h = by pan a (bytes_eq pan kept.key.pan) refl (sym (account_again pan kept.key.pan (record { opening = account.opening; balance = balance }) accounts) ∙ h)
 
-keeps_entry : (kept : Entry) (old new : LedgerData) → new.accounts ≡ old.accounts → new.entries ≡ with_entry kept old.entries → Keeps kept old new
+keeps_entry : (kept : Entry) (old new : LedgerData) → new.accounts ≡ old.accounts → new.entries ≡ with_entry kept old.entries → KeepsEntry kept old new
 keeps_entry kept old new accounts entries = record {
   accounts = accounts;
   entries = entries;
@@ -113,10 +113,10 @@ keeps_entry kept old new accounts entries = record {
 
 -- the ledger that is left where these accounts opened as before and the entry was kept
 pub keeps : (kept : Entry) (accounts after : List (List ℕ × Account)) (entries left : List Entry) (old : LedgerData)
-    → seen accounts entries ≡ old → map opened after ≡ map opened accounts → left ≡ with_entry kept entries → Keeps kept old (seen after left)
-keeps kept accounts after entries left old is same more = subst (λ (o : LedgerData). Keeps kept o (seen after left)) is (keeps_entry kept (seen accounts entries) (seen after left) same more)
+    → seen accounts entries ≡ old → map with_opening_balance after ≡ map with_opening_balance accounts → left ≡ with_entry kept entries → KeepsEntry kept old (seen after left)
+keeps kept accounts after entries left old is same more = subst (λ (o : LedgerData). KeepsEntry kept o (seen after left)) is (keeps_entry kept (seen accounts entries) (seen after left) same more)
 
 -- want of memory answers where there is no refusal
-pub answers_memory : (r : Result (Unit {0}) LedgerFault) (refusal : Option LedgerFault) → IsErrAnd r (λ e. e ≡ OutOfMemory) → refusal ≡ None → Answers r refusal
+pub answers_memory : (r : Result (Unit {0}) LedgerFault) (refusal : Option LedgerFault) → IsErrAnd r (λ e. e ≡ OutOfMemory) → refusal ≡ None → AnswersRefusal r refusal
 answers_memory (Ok value) refusal is none = absurd is
-answers_memory (Err fault) refusal is none = subst (λ (e : LedgerFault). Answers {T = Unit {0}} (Err e) refusal) (sym is) none
+answers_memory (Err fault) refusal is none = subst (λ (e : LedgerFault). AnswersRefusal {T = Unit {0}} (Err e) refusal) (sym is) none

@@ -9,8 +9,8 @@ use Rattle.std.proofs.lemmas.Option.{get_or_from_slice_get, slice_get_within}
 use borrow.Author.Count.{below_more}
 use Rattle.emv_dict.specs.Settings.{most_amount}
 use Rattle.host_ledger.specs.declared.accounts.Account.{Account}
-use Rattle.host_ledger.specs.Account.{account_at, with_account, opened, IsBalanced, AreBalanced}
-use Rattle.host_ledger.specs.Accounts.{opening_of, IsRepeat, AreDistinctBelow}
+use Rattle.host_ledger.specs.Account.{account_at, with_account, with_opening_balance, IsBalanced, AreBalanced}
+use Rattle.host_ledger.specs.Accounts.{opening_balance_of, IsRepeat, AreDistinctBelow}
 use Rattle.host_ledger.proofs.Balances.{opening_found, account_again}
 
 mapped : (r : Option Account) → is_some (option_map (λ a. a.opening) r) ≡ is_some r
@@ -18,15 +18,15 @@ mapped None = refl
 mapped (Some a) = refl
 
 -- whether an account before this place has the account number
-before : (items : List (List ℕ × ℕ)) (place : ℕ) (pan : List ℕ) (accounts : List (List ℕ × Account)) → map opened accounts ≡ take place items
-    → is_some (opening_of pan (take place items)) ≡ is_some (account_at pan accounts)
-before items place pan accounts seen = ap (λ l. is_some (opening_of pan l)) (sym seen) ∙ ap is_some (opening_found pan accounts) ∙ mapped (account_at pan accounts)
+before : (items : List (List ℕ × ℕ)) (place : ℕ) (pan : List ℕ) (accounts : List (List ℕ × Account)) → map with_opening_balance accounts ≡ take place items
+    → is_some (opening_balance_of pan (take place items)) ≡ is_some (account_at pan accounts)
+before items place pan accounts seen = ap (λ l. is_some (opening_balance_of pan l)) (sym seen) ∙ ap is_some (opening_found pan accounts) ∙ mapped (account_at pan accounts)
 
 -- an account number is looked for as its opening balance is
-pub any_opening : (pan : List ℕ) (accounts : List (List ℕ × ℕ)) → list_any (λ account. bytes_eq pan account.0) accounts ≡ is_some (opening_of pan accounts)
+pub any_opening : (pan : List ℕ) (accounts : List (List ℕ × ℕ)) → list_any (λ account. bytes_eq pan account.0) accounts ≡ is_some (opening_balance_of pan accounts)
 any_opening pan [] = refl
 any_opening pan (account ∷ accounts) =
-    elim (bytes_eq pan account.0) as (λ b. b || list_any (λ (other : List ℕ × ℕ). bytes_eq pan other.0) accounts ≡ is_some (cond b (Some account.1) (opening_of pan accounts))) [
+    elim (bytes_eq pan account.0) as (λ b. b || list_any (λ (other : List ℕ × ℕ). bytes_eq pan other.0) accounts ≡ is_some (cond b (Some account.1) (opening_balance_of pan accounts))) [
       | true ↦ refl
       | false ↦ any_opening pan accounts
     ]
@@ -43,23 +43,23 @@ passed items place item there none below = below_more (λ k. IsRepeat items k �
     new : IsRepeat items place → ⊥
     new repeat =
         let one : repeat.account ≡ item = cc (repeat.there, there) in
-        let some : is_some (opening_of item.0 (take place items)) ≡ true = ap (λ (account : List ℕ × ℕ). is_some (opening_of account.0 (take place items))) (sym one) ∙ repeat.earlier in
-        let lacking : is_some (opening_of item.0 (take place items)) ≡ false = sym (any_opening item.0 (take place items)) ∙ none in
+        let some : is_some (opening_balance_of item.0 (take place items)) ≡ true = ap (λ (account : List ℕ × ℕ). is_some (opening_balance_of account.0 (take place items))) (sym one) ∙ repeat.earlier in
+        let lacking : is_some (opening_balance_of item.0 (take place items)) ≡ false = sym (any_opening item.0 (take place items)) ∙ none in
         absurd cc
 
-pub is_repeat : (items : List (List ℕ × ℕ)) (place : ℕ) (item : List ℕ × ℕ) (accounts : List (List ℕ × Account)) → map opened accounts ≡ take place items
+pub is_repeat : (items : List (List ℕ × ℕ)) (place : ℕ) (item : List ℕ × ℕ) (accounts : List (List ℕ × Account)) → map with_opening_balance accounts ≡ take place items
     → slice_get items place ≡ Some item → is_some (account_at item.0 accounts) ≡ true → IsRepeat items place
 is_repeat items place item accounts seen there found = record { account = item; there = there; earlier = before items place item.0 accounts seen ∙ found }
 
-no_repeat : (items : List (List ℕ × ℕ)) (place : ℕ) (item : List ℕ × ℕ) (accounts : List (List ℕ × Account)) → map opened accounts ≡ take place items
+no_repeat : (items : List (List ℕ × ℕ)) (place : ℕ) (item : List ℕ × ℕ) (accounts : List (List ℕ × Account)) → map with_opening_balance accounts ≡ take place items
     → slice_get items place ≡ Some item → account_at item.0 accounts ≡ None → IsRepeat items place → ⊥
 no_repeat items place item accounts seen there new repeat =
     let one : repeat.account ≡ item = cc (repeat.there, there) in
-    let none : is_some (opening_of item.0 (take place items)) ≡ false = before items place item.0 accounts seen ∙ ap is_some new in
-    let some : is_some (opening_of item.0 (take place items)) ≡ true = ap (λ (account : List ℕ × ℕ). is_some (opening_of account.0 (take place items))) (sym one) ∙ repeat.earlier in
+    let none : is_some (opening_balance_of item.0 (take place items)) ≡ false = before items place item.0 accounts seen ∙ ap is_some new in
+    let some : is_some (opening_balance_of item.0 (take place items)) ≡ true = ap (λ (account : List ℕ × ℕ). is_some (opening_balance_of account.0 (take place items))) (sym one) ∙ repeat.earlier in
     absurd cc
 
-pub distinct_more : (items : List (List ℕ × ℕ)) (place : ℕ) (item : List ℕ × ℕ) (accounts : List (List ℕ × Account)) → map opened accounts ≡ take place items
+pub distinct_more : (items : List (List ℕ × ℕ)) (place : ℕ) (item : List ℕ × ℕ) (accounts : List (List ℕ × Account)) → map with_opening_balance accounts ≡ take place items
     → slice_get items place ≡ Some item → account_at item.0 accounts ≡ None → AreDistinctBelow items place → AreDistinctBelow items (place + 1)
 distinct_more items place item accounts seen there new below = below_more (λ k. IsRepeat items k → ⊥) place below (no_repeat items place item accounts seen there new)
 
@@ -72,11 +72,11 @@ added pan a (e ∷ es) new = by (λ h. added pan a es h) (bytes_eq pan e.0) new
     by behind true h = absurd cc
     by behind false h = ap (λ l. e ∷ l) (behind h)
 
-pub seen_more : (items : List (List ℕ × ℕ)) (place : ℕ) (item : List ℕ × ℕ) (accounts : List (List ℕ × Account)) (a : Account) → map opened accounts ≡ take place items
-    → slice_get items place ≡ Some item → account_at item.0 accounts ≡ None → a.opening ≡ item.1 → map opened (with_account item.0 a accounts) ≡ take (place + 1) items
+pub seen_more : (items : List (List ℕ × ℕ)) (place : ℕ) (item : List ℕ × ℕ) (accounts : List (List ℕ × Account)) (a : Account) → map with_opening_balance accounts ≡ take place items
+    → slice_get items place ≡ Some item → account_at item.0 accounts ≡ None → a.opening ≡ item.1 → map with_opening_balance (with_account item.0 a accounts) ≡ take (place + 1) items
 seen_more items place item accounts a seen there new same =
     let last : get_or items place item ≡ item = get_or_from_slice_get items place item item there in
-    ap (map opened) (added item.0 a accounts new) ∙ map-append opened accounts ((item.0, a) ∷ [])
+    ap (map with_opening_balance) (added item.0 a accounts new) ∙ map-append with_opening_balance accounts ((item.0, a) ∷ [])
     ∙ ap (λ l. l ++ (item.0, a.opening) ∷ []) seen ∙ ap (λ n. take place items ++ (item.0, n) ∷ []) same
     ∙ ap (λ i. take place items ++ i ∷ []) (sym last) ∙ sym (take_more items place item (slice_get_within items place item there))
 

@@ -10,13 +10,13 @@ use Rattle.host_ledger.specs.declared.key.Key.{Key}
 use Rattle.host_ledger.specs.declared.entry.Entry.{Entry}
 use Rattle.host_ledger.specs.declared.entry.EntryState.{EntryState}
 use Rattle.host_ledger.specs.declared.entry.EntryState.TheVariants.{Held, Booked, Released}
-use Rattle.host_ledger.specs.Entries.{entry_at, with_entry, taken, taken_at, taken_from}
+use Rattle.host_ledger.specs.Entries.{entry_at, with_entry, amount_taken, taken_at, taken_from}
 use Rattle.host_ledger.specs.Key.{same_key}
 use Rattle.host_ledger.proofs.Keys.{same, own_key, same_pan, own_pan}
 
 -- what an entry takes from this account number
 weight : List ℕ → Entry → ℕ
-weight pan e = cond (bytes_eq pan e.key.pan) (taken e.state e.amount) 0
+weight pan e = cond (bytes_eq pan e.key.pan) (amount_taken e.state e.amount) 0
 
 weight_at : List ℕ → Option Entry → ℕ
 weight_at pan None = 0
@@ -25,7 +25,7 @@ weight_at pan (Some e) = weight pan e
 sum_first : (pan : List ℕ) (e : Entry) (es : List Entry) → taken_from pan (e ∷ es) ≡ weight pan e + taken_from pan es
 unfolding weight
 sum_first pan e es =
-    let f : Entry → ℕ = λ e. taken e.state e.amount in
+    let f : Entry → ℕ = λ e. amount_taken e.state e.amount in
     let rest = filter (λ e. bytes_eq pan e.key.pan) es in
     elim (bytes_eq pan e.key.pan) as (λ b. sum_by f (cond b (e ∷ rest) rest) ≡ cond b (f e) 0 + sum_by f rest) [ true ↦ sum_by-cons f e rest | false ↦ omega arith ]
 
@@ -47,7 +47,7 @@ found_key key (first ∷ es) e h = by (found_key key es e) (same_key key first.k
     by others true is h = let one : first ≡ e = cc in ap (λ x. x.key) (sym one) ∙ sym (same key first.key is)
     by others false is h = others h
 
-own_weight : (kept : Entry) → weight kept.key.pan kept ≡ taken kept.state kept.amount
+own_weight : (kept : Entry) → weight kept.key.pan kept ≡ amount_taken kept.state kept.amount
 unfolding weight
 own_weight kept = rw (own_pan kept.key.pan) refl
 
@@ -65,20 +65,20 @@ unfolding weight_at
 other_weight_at pan key None is other = refl
 other_weight_at pan key (Some e) is other = other_weight pan e (λ h. other (h ∙ ap (λ (k : Key). k.pan) (is e refl)))
 
-pub own_sum : (kept : Entry) (es : List Entry) → taken_from kept.key.pan (with_entry kept es) + taken_at (entry_at kept.key es) ≡ taken_from kept.key.pan es + taken kept.state kept.amount
+pub own_sum : (kept : Entry) (es : List Entry) → taken_from kept.key.pan (with_entry kept es) + taken_at (entry_at kept.key es) ≡ taken_from kept.key.pan es + amount_taken kept.state kept.amount
 own_sum kept es = omega (arith, sums kept.key.pan kept es, own_weight kept, own_weight_at kept.key (entry_at kept.key es) (found_key kept.key es))
 
 pub other_sum : (kept : Entry) (es : List Entry) (pan : List ℕ) → pan ≢ kept.key.pan → taken_from pan (with_entry kept es) ≡ taken_from pan es
 other_sum kept es pan other = omega (arith, sums pan kept es, other_weight pan kept other, other_weight_at pan kept.key (entry_at kept.key es) (found_key kept.key es) other)
 
-pub taken_small : (state : EntryState) (amount : ℕ) → taken state amount ≤ amount
+pub taken_small : (state : EntryState) (amount : ℕ) → amount_taken state amount ≤ amount
 taken_small Held amount = omega arith
 taken_small Booked amount = omega arith
 taken_small Released amount = omega arith
 
 weight_small : (pan : List ℕ) (e : Entry) → weight pan e ≤ e.amount
 unfolding weight
-weight_small pan e = elim (bytes_eq pan e.key.pan) as (λ b. cond b (taken e.state e.amount) 0 ≤ e.amount) [ true ↦ taken_small e.state e.amount | false ↦ omega arith ]
+weight_small pan e = elim (bytes_eq pan e.key.pan) as (λ b. cond b (amount_taken e.state e.amount) 0 ≤ e.amount) [ true ↦ taken_small e.state e.amount | false ↦ omega arith ]
 
 -- so many entries of 12 digits
 pub sum_small : (pan : List ℕ) (es : List Entry) → AllByRecursion (λ e. e.amount ≤ most_amount) es → taken_from pan es ≤ most_amount * length es

@@ -11,7 +11,7 @@ use Rattle.host_ledger.specs.declared.entry.Entry.{Entry}
 use Rattle.host_ledger.specs.Account.{account_at, with_account}
 use Rattle.host_ledger.specs.Entries.{entry_at, with_entry}
 use Rattle.host_ledger.specs.Key.{same_key}
-use Rattle.host_ledger.specs.Kept.{kept_entry}
+use Rattle.host_ledger.specs.KeptEntries.{kept_entry}
 use Rattle.host_ledger.proofs.Keys.{same}
 
 pub account_found : (test : List ℕ → Bool) (pan : List ℕ) (es : List (List ℕ × Account)) → ((k : List ℕ) → test k ≡ bytes_eq pan k) → lookup test es ≡ account_at pan es

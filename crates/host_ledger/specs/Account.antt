@@ -19,8 +19,8 @@ with_account pan account (kept ∷ accounts) =
     if bytes_eq pan kept.0 then (kept.0, account) ∷ accounts else kept ∷ with_account pan account accounts
 
 -- the account number and its opening balance
-abbrev pub opened : List ℕ × Account → List ℕ × ℕ
-opened kept = (kept.0, kept.1.opening)
+abbrev pub with_opening_balance : List ℕ × Account → List ℕ × ℕ
+with_opening_balance kept = (kept.0, kept.1.opening)
 
 -- the balance of an account is what these entries of its account number leave
 pub record IsBalanced (entries : List Entry) (pan : List ℕ) (account : Account) : Type 0 where

@@ -23,16 +23,16 @@ is_held Booked = false
 is_held Released = false
 
 -- what an amount takes from the balance in this state
-abbrev pub taken : EntryState → ℕ → ℕ
-taken Held amount = amount
-taken Booked amount = amount
-taken Released amount = 0
+abbrev pub amount_taken : EntryState → ℕ → ℕ
+amount_taken Held amount = amount
+amount_taken Booked amount = amount
+amount_taken Released amount = 0
 
 -- what the entry of a transaction takes, if there is one
 abbrev pub taken_at : Option Entry → ℕ
 taken_at None = 0
-taken_at (Some entry) = taken entry.state entry.amount
+taken_at (Some entry) = amount_taken entry.state entry.amount
 
 -- what the held and booked entries of an account number take in all
 abbrev pub taken_from : List ℕ → List Entry → ℕ
-taken_from pan entries = sum_by (λ entry. taken entry.state entry.amount) (filter (λ entry. bytes_eq pan entry.key.pan) entries)
+taken_from pan entries = sum_by (λ entry. amount_taken entry.state entry.amount) (filter (λ entry. bytes_eq pan entry.key.pan) entries)

@@ -1,6 +1,6 @@
 pub mod Account
 pub mod Accounts
 pub mod Entries
-pub mod Kept
+pub mod KeptEntries
 pub mod Key
 pub mod Refusals

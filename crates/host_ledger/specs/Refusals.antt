@@ -12,17 +12,17 @@ hold_refusal (Some balance) (Some entry) amount = Some (AlreadyBooked entry)
 hold_refusal (Some balance) None amount = (if int_lt balance (pos amount) then Some (NoFunds balance) else None)
 
 -- the entry where it is booked or released
-abbrev pub settled : Option Entry → Option Entry
-settled None = None
-settled (Some entry) = (if is_held entry.state then None else Some entry)
+abbrev pub settled_entry : Option Entry → Option Entry
+settled_entry None = None
+settled_entry (Some entry) = (if is_held entry.state then None else Some entry)
 
 -- why no amount is booked or released
 abbrev pub settle_refusal : Option ℤ → Option Entry → Option LedgerFault
 settle_refusal None kept = Some UnknownAccount
-settle_refusal (Some balance) kept = option_map AlreadyBooked (settled kept)
+settle_refusal (Some balance) kept = option_map AlreadyBooked (settled_entry kept)
 
 -- a call answers with the refusal where there is one; want of memory comes only where there is none
-abbrev pub Answers : {T : Type 0} → Result T LedgerFault → Option LedgerFault → Type 0
-Answers (Ok value) refusal = refusal ≡ None
-Answers (Err OutOfMemory) refusal = refusal ≡ None
-Answers (Err fault) refusal = refusal ≡ Some fault
+abbrev pub AnswersRefusal : {T : Type 0} → Result T LedgerFault → Option LedgerFault → Type 0
+AnswersRefusal (Ok value) refusal = refusal ≡ None
+AnswersRefusal (Err OutOfMemory) refusal = refusal ≡ None
+AnswersRefusal (Err fault) refusal = refusal ≡ Some fault

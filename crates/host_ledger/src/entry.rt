@@ -1,5 +1,5 @@
 ghost use Rattle.std.specs.Prelude.{◌≡◌};
-ghost use Rattle.host_ledger.specs.Entries.{taken};
+ghost use Rattle.host_ledger.specs.Entries.{amount_taken};
 
 use crate::key::Key;
 
@@ -26,7 +26,7 @@ pub struct Entry {
 impl Entry {
     /// What it takes from the balance of its account.
     pub(crate) fn taken(&self) -> u64
-        ensures { result ≡ taken self.now.state self.now.amount }
+        ensures { result ≡ amount_taken self.now.state self.now.amount }
     {
         match self.state {
             EntryState::Held | EntryState::Booked => self.amount,

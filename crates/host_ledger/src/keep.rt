@@ -1,6 +1,6 @@
 ghost use Rattle.std.specs.Prelude.{◌≡◌, ℕ, ◌+◌, ◌*◌, ◌^◌, ◌≤◌, ◌+ℤ◌, ◌-ℤ◌, ◌≤ℤ◌, pos, map, OnOk, OnErr, Some, None};
 ghost use Rattle.emv_dict.specs.Settings.{most_amount};
-ghost use Rattle.host_ledger.specs.Account.{account_at, opened, AreBalanced};
+ghost use Rattle.host_ledger.specs.Account.{account_at, with_opening_balance, AreBalanced};
 ghost use Rattle.host_ledger.specs.Entries.{entry_at, with_entry, taken_at};
 
 use crate::accounts::{Account, Accounts};
@@ -20,7 +20,7 @@ pub fn keep(
     requires balanced { AreBalanced accounts.old rows.old }
     requires small { entry.amount ≤ most_amount }
     ensures ok { OnOk result (rows.new ≡ with_entry entry rows.old) }
-    ensures opened { map opened accounts.new ≡ map opened accounts.old }
+    ensures opened { map with_opening_balance accounts.new ≡ map with_opening_balance accounts.old }
     ensures balanced { AreBalanced accounts.new rows.new }
     ensures err { OnErr result ((accounts.new ≡ accounts.old) × (rows.new ≡ rows.old)) }
     ensures absent { OnErr result (entry_at entry.key rows.old ≡ None) }

@@ -2,10 +2,10 @@ ghost use Rattle.std.specs.Prelude.{◌≡◌, ◌≤◌, ◌+ℤ◌, ◌-ℤ◌
 ghost use Rattle.std.specs.List.{All, list_any};
 ghost use Rattle.std.specs.Str.{bytes_eq};
 ghost use Rattle.emv_dict.specs.Settings.{most_amount};
-ghost use Rattle.host_ledger.specs.Account.{account_at, opened, AreBalanced};
-ghost use Rattle.host_ledger.specs.Accounts.{balance_of, AreDistinctBelow, RefusesAccounts, Keeps};
+ghost use Rattle.host_ledger.specs.Account.{account_at, with_opening_balance, AreBalanced};
+ghost use Rattle.host_ledger.specs.Accounts.{balance_of, AreDistinctBelow, RefusesAccounts, KeepsEntry};
 ghost use Rattle.host_ledger.specs.Entries.{entry_at, with_entry};
-ghost use Rattle.host_ledger.specs.Refusals.{Answers, hold_refusal, settle_refusal, settled};
+ghost use Rattle.host_ledger.specs.Refusals.{AnswersRefusal, hold_refusal, settle_refusal, settled_entry};
 ghost use Rattle.host_ledger.specs.declared.fault.LedgerFault.TheVariants.{OutOfMemory};
 ghost use Rattle.host_ledger.specs.declared.entry.EntryState.TheVariants.{Held, Booked, Released};
 
@@ -29,12 +29,12 @@ pub struct Ledger {
 
 impl Model for Ledger {
     ghost use Rattle.std.specs.Prelude.{map};
-    ghost use Rattle.host_ledger.specs.Account.{opened, AreBalanced};
+    ghost use Rattle.host_ledger.specs.Account.{with_opening_balance, AreBalanced};
     ghost use Rattle.host_ledger.specs.Accounts.{LedgerData};
 
     ghost Value = { LedgerData };
 
-    ghost view = { λ l. record { accounts = map opened l.accounts; entries = l.rows } };
+    ghost view = { λ l. record { accounts = map with_opening_balance l.accounts; entries = l.rows } };
 
     ghost invariant = { λ l. AreBalanced l.accounts l.rows };
 }
@@ -84,8 +84,8 @@ impl Ledger {
     /// After a refusal nothing has changed.
     pub fn hold(&mut self, key: &Key, amount: u64) -> Result<(), LedgerFault>
         requires { amount ≤ most_amount }
-        ensures refused { Answers result (hold_refusal (balance_of key.now.pan self.old) (entry_at key.now self.old.entries) amount) }
-        ensures ok { OnOk result (Keeps (record { key = key.now; amount = amount; state = Held }) self.old self.new) }
+        ensures refused { AnswersRefusal result (hold_refusal (balance_of key.now.pan self.old) (entry_at key.now self.old.entries) amount) }
+        ensures ok { OnOk result (KeepsEntry (record { key = key.now; amount = amount; state = Held }) self.old self.new) }
         ensures err { OnErr result (self.new ≡ self.old) }
     {
         let Some(account) = self.accounts.get(&key.pan) else {
@@ -112,10 +112,10 @@ impl Ledger {
     /// where it has no entry. After a refusal nothing has changed.
     pub fn book(&mut self, key: &Key, amount: u64) -> Result<(), LedgerFault>
         requires { amount ≤ most_amount }
-        ensures refused { Answers result (settle_refusal (balance_of key.now.pan self.old) (entry_at key.now self.old.entries)) }
+        ensures refused { AnswersRefusal result (settle_refusal (balance_of key.now.pan self.old) (entry_at key.now self.old.entries)) }
         // Only a transaction without an entry needs memory.
         ensures memory { result ≡ Err OutOfMemory → entry_at key.now self.old.entries ≡ None }
-        ensures ok { OnOk result (Keeps (record { key = key.now; amount = amount; state = Booked }) self.old self.new) }
+        ensures ok { OnOk result (KeepsEntry (record { key = key.now; amount = amount; state = Booked }) self.old self.new) }
         ensures err { OnErr result (self.new ≡ self.old) }
     {
         self.settle(Entry {
@@ -129,10 +129,10 @@ impl Ledger {
     /// Refused as `book` is. After a refusal nothing has changed.
     pub fn release(&mut self, key: &Key, amount: u64) -> Result<(), LedgerFault>
         requires { amount ≤ most_amount }
-        ensures refused { Answers result (settle_refusal (balance_of key.now.pan self.old) (entry_at key.now self.old.entries)) }
+        ensures refused { AnswersRefusal result (settle_refusal (balance_of key.now.pan self.old) (entry_at key.now self.old.entries)) }
         // Only a transaction without an entry needs memory.
         ensures memory { result ≡ Err OutOfMemory → entry_at key.now self.old.entries ≡ None }
-        ensures ok { OnOk result (Keeps (record { key = key.now; amount = amount; state = Released }) self.old self.new) }
+        ensures ok { OnOk result (KeepsEntry (record { key = key.now; amount = amount; state = Released }) self.old self.new) }
         ensures err { OnErr result (self.new ≡ self.old) }
     {
         self.settle(Entry {
@@ -145,9 +145,9 @@ impl Ledger {
     /// Keeps an entry where its transaction has none or a held one.
     fn settle(&mut self, entry: Entry) -> Result<(), LedgerFault>
         requires { entry.amount ≤ most_amount }
-        ensures refused { Answers result (settle_refusal (balance_of entry.key.pan self.old) (entry_at entry.key self.old.entries)) }
+        ensures refused { AnswersRefusal result (settle_refusal (balance_of entry.key.pan self.old) (entry_at entry.key self.old.entries)) }
         ensures memory { result ≡ Err OutOfMemory → entry_at entry.key self.old.entries ≡ None }
-        ensures ok { OnOk result (Keeps entry self.old self.new) }
+        ensures ok { OnOk result (KeepsEntry entry self.old self.new) }
         ensures err { OnErr result (self.new ≡ self.old) }
     {
         let Some(account) = self.accounts.get(&entry.key.pan) else {
@@ -182,7 +182,7 @@ fn has_pan(accounts: &[(Digits, u64)], pan: &Digits) -> bool
 
 /// The entry where it is booked or released.
 fn settled(kept: Option<Entry>) -> Option<Entry>
-    ensures { result ≡ settled kept }
+    ensures { result ≡ settled_entry kept }
 {
     let entry = kept?;
     match entry.state {

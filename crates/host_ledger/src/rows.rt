@@ -23,7 +23,7 @@ pub struct Rows {
 impl Model for Rows {
     ghost use Rattle.std.specs.Prelude.{List, map};
     ghost use Rattle.host_ledger.specs.declared.entry.Entry.{Entry};
-    ghost use Rattle.host_ledger.specs.Kept.{kept_entry};
+    ghost use Rattle.host_ledger.specs.KeptEntries.{kept_entry};
 
     ghost Value = { List Entry };
 

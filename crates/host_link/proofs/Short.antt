@@ -15,7 +15,7 @@ use Rattle.auth_message.specs.declared.reversal.ReversalFields.{ReversalFields}
 use Rattle.auth_message.specs.Accepted.{IsPresent, IsReversal}
 use Rattle.auth_message.specs.Data.{RequestData, PresentData, NamedSizes, PaidSizes}
 use Rattle.auth_message.specs.Field.{is_fixed, fixed_value}
-use Rattle.auth_message.specs.Fields.{◌>>=◌, given, behind, if_there, fixed_at, some_at, pan_at, fixed_if_there, ended}
+use Rattle.auth_message.specs.Fields.{◌>>=◌, field_given, behind_field, field_if_there, fixed_at, some_at, pan_at, fixed_if_there, no_item_left}
 use Rattle.auth_message.specs.Groups.{named_at, paid_at}
 use Rattle.auth_message.specs.Message.{message_in, message_of}
 use Rattle.auth_message.specs.Messages.{request_at, present_at, reversal_at}
@@ -41,18 +41,18 @@ value_sized count numeric tag found value false right is = let here = rw right a
 
 optional_sized : (items : List ItemData) (out : Option (List ℕ) × List ItemData) → fixed_if_there 1 true 0x5F34 items ≡ Ok out → IfSome out.0 (λ v. length v ≡ 1)
 unfolding fixed_if_there
-optional_sized items out is = by (given 0x5F34 items) is
+optional_sized items out is = by (field_given 0x5F34 items) is
   where
-    by : (o : Option (List ℕ)) → (if_there (fixed_value 1 true 0x5F34) o >>= λ value. Ok (value, behind 0x5F34 items)) ≡ Ok out → IfSome out.0 (λ v. length v ≡ 1)
+    by : (o : Option (List ℕ)) → (field_if_there (fixed_value 1 true 0x5F34) o >>= λ value. Ok (value, behind_field 0x5F34 items)) ≡ Ok out → IfSome out.0 (λ v. length v ≡ 1)
     by None made =
         let none : Option (List ℕ) = None in
-        subst (λ (q : Option (List ℕ) × List ItemData). IfSome q.0 (λ v. length v ≡ 1)) (same_read (none, behind 0x5F34 items) out made) tt
+        subst (λ (q : Option (List ℕ) × List ItemData). IfSome q.0 (λ v. length v ≡ 1)) (same_read (none, behind_field 0x5F34 items) out made) tt
     by (Some value) made =
-        let step = read_of (if_there (fixed_value 1 true 0x5F34) (Some value)) _ out made in
+        let step = read_of (field_if_there (fixed_value 1 true 0x5F34) (Some value)) _ out made in
         let inner = read_of (fixed_value 1 true 0x5F34 value) _ step.value step.made in
         let found : Option (List ℕ) = Some inner.value in
         let one : length inner.value ≡ 1 = value_sized 1 true 0x5F34 value inner.value _ refl inner.made in
-        subst (λ (q : Option (List ℕ) × List ItemData). IfSome q.0 (λ v. length v ≡ 1)) (same_read (step.value, behind 0x5F34 items) out step.behind)
+        subst (λ (q : Option (List ℕ) × List ItemData). IfSome q.0 (λ v. length v ≡ 1)) (same_read (step.value, behind_field 0x5F34 items) out step.behind)
         (subst (λ (q : Option (List ℕ)). IfSome q (λ v. length v ≡ 1)) (same_read found step.value inner.behind) one)
 
 -- what names the transaction
@@ -222,7 +222,7 @@ present_sized items f is =
     let second = read_of (paid_at first.value.1) _ f first.behind in
     let third = read_of (some_at 0 32 0x9F10 second.value.1) _ f second.behind in
     let fourth = read_of (fixed_at 2 false 0x8A third.value.1) _ f third.behind in
-    let fifth = read_of (ended fourth.value.1) _ f fourth.behind in
+    let fifth = read_of (no_item_left fourth.value.1) _ f fourth.behind in
     subst PresentSizes (same_read (record { named = first.value.0; paid = second.value.0; t9f10 = third.value.0; t8a = fourth.value.0 }) f fifth.behind)
     (record {
       named = named_sized items first.value first.made;
@@ -253,7 +253,7 @@ reversal_sized items f is =
     let third = read_of (fixed_at 6 true 0x9F02 second.value.1) _ f second.behind in
     let fourth = read_of (fixed_at 2 true 0x5F2A third.value.1) _ f third.behind in
     let fifth = read_of (fixed_at 2 false 0x8A fourth.value.1) _ f fourth.behind in
-    let sixth = read_of (ended fifth.value.1) _ f fifth.behind in
+    let sixth = read_of (no_item_left fifth.value.1) _ f fifth.behind in
     subst ReversalSizes (same_read _ f sixth.behind)
     (record {
       named = named_sized items first.value first.made;

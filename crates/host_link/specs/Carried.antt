@@ -6,7 +6,7 @@ use Rattle.auth_message.specs.Spelling.{reply_bytes}
 use Rattle.auth_message.specs.Whole.{message_bytes, AreSpelledScripts}
 use Rattle.iso_message.specs.declared.kind.CallKind.{CallKind}
 use Rattle.iso_message.specs.Reading.{call_of}
-use Rattle.iso_message.specs.Reply.{reply_of}
+use Rattle.iso_message.specs.Reply.{iso_reply_of}
 
 -- bytes that are read as the call that a message is
 pub record IsCallOf (bytes message : List ℕ) : Type 0 where
@@ -22,7 +22,7 @@ CarriesCall true bytes message = IsCallOf bytes message
 pub record IsReplyOf (bytes reply : List ℕ) : Type 0 where
   pub kind : CallKind
   pub found : ReplyData
-  pub read : reply_of bytes ≡ Ok (kind, found)
+  pub read : iso_reply_of bytes ≡ Ok (kind, found)
   pub same : reply ≡ reply_bytes found.code found.auth found.scripts
 
 abbrev pub CarriesReply : Bool → List ℕ → List ℕ → Type 0

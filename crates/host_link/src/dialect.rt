@@ -2,9 +2,9 @@
 ghost use Rattle.std.specs.Prelude.{◌≡◌, ◌≤◌, ℕ, List, [], length, true, IsOk};
 ghost use Rattle.auth_message.specs.Whole.{IsMessage, IsReply};
 ghost use Rattle.host_link.specs.Carried.{CarriesCall, CarriesReply};
-ghost use Rattle.iso_message.specs.Dialect.{call_in, reply_in, kind_of as kind_of_call};
+ghost use Rattle.iso_message.specs.Dialect.{call_in, reply_in, call_kind_of as kind_of_call};
 ghost use Rattle.iso_message.specs.Reading.{call_of};
-ghost use Rattle.iso_message.specs.Reply.{reply_of};
+ghost use Rattle.iso_message.specs.Reply.{iso_reply_of};
 
 use auth_message::{
     Incoming, Message, read_message, read_reply, write_presentment, write_request, write_reversal,
@@ -100,7 +100,7 @@ pub fn write_reply(iso: bool, message: &[u8], reply: &[u8], out: &mut Message)
 /// Takes a reply from the wire, in place of what `out` holds.
 pub(crate) fn take_reply(iso: bool, bytes: &[u8], out: &mut Message)
     requires fits { length bytes.now ≤ 2048 }
-    requires read { iso ≡ true → IsOk (reply_of bytes.now) }
+    requires read { iso ≡ true → IsOk (iso_reply_of bytes.now) }
     ensures { (reply : List ℕ) → CarriesReply iso bytes.now reply → out.new.items ≡ reply }
 {
     if !iso {

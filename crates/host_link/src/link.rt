@@ -4,7 +4,7 @@ ghost use Rattle.auth_message.specs.Message.{message_of};
 ghost use Rattle.auth_message.specs.Whole.{IsMessage, IsReply};
 ghost use Rattle.host_link.specs.Delivery.{delivered, heard as heard_of, reply_if};
 ghost use Rattle.iso_message.specs.Dialect.{call_in, reply_in};
-ghost use Rattle.issuer_host.specs.History.{HostStands, host_reply, is_new};
+ghost use Rattle.issuer_host.specs.History.{HostStands, host_reply, is_new_message};
 
 use crate::dialect::{Wire, take_call, take_reply, write_call, write_reply};
 use auth_message::Message;
@@ -35,7 +35,7 @@ pub fn deliver(
     ensures accounts { host.new.accounts ≡ host.old.accounts }
     ensures err { OnErr result (host.new ≡ host.old) }
     // Only a message that the host hasn't had can want memory.
-    ensures memory { OnErr result (is_new host.old.books (message_of message.now) ≡ true) }
+    ensures memory { OnErr result (is_new_message host.old.books (message_of message.now) ≡ true) }
     ensures call { wire.new.call.items ≡ call_in iso message.now }
     ensures shown { IfOk result (λ comes. reply_if comes wire.new.reply.items ≡ option_map (reply_in iso message.now) (reply_if comes reply.new.items)) }
 {
@@ -68,7 +68,7 @@ fn carry(
     ensures keys { host.new.keys ≡ host.old.keys }
     ensures accounts { host.new.accounts ≡ host.old.accounts }
     ensures err { OnErr result (host.new ≡ host.old) }
-    ensures memory { OnErr result (is_new host.old.books (message_of message.now) ≡ true) }
+    ensures memory { OnErr result (is_new_message host.old.books (message_of message.now) ≡ true) }
 {
     match link {
         Link::RequestLost => Ok(false),
@@ -91,7 +91,7 @@ fn carry(
 /// A message that the host has answered comes again, which takes no memory.
 fn repeat(message: &[u8], host: &mut Host<'_>)
     requires short { length message.now ≤ 2048 }
-    requires kept { is_new host.old.books (message_of message.now) ≡ false }
+    requires kept { is_new_message host.old.books (message_of message.now) ≡ false }
     ensures stands { (messages : List (List ℕ)) → HostStands host.old messages → HostStands host.new (messages ++ message.now ∷ []) }
     ensures keys { host.new.keys ≡ host.old.keys }
     ensures accounts { host.new.accounts ≡ host.old.accounts }

@@ -16,12 +16,12 @@ use Rattle.iso_message.specs.declared.front.Numbers.{Numbers}
 use Rattle.iso_message.specs.declared.kind.CallKind.{CallKind}
 use Rattle.iso_message.specs.declared.kind.CallKind.TheVariants as kind
 use Rattle.iso_message.specs.Front.{request_front_at, present_front_at, reversal_front_at, tied}
-use Rattle.iso_message.specs.Items.{request_items, request_of, request_in, present_items, present_of, present_in, reversal_items, reversal_in}
+use Rattle.iso_message.specs.Items.{request_items, request_of_parts, request_in, present_items, present_of, present_in, reversal_items, reversal_in}
 use Rattle.iso_message.specs.Layout.{call_type, reply_type}
 use Rattle.iso_message.specs.Left.{Left, part_at, items_at, in_55, nothing_left}
-use Rattle.iso_message.specs.Reading.{kind_by, kind_at, whole, request_at, present_at, reversal_at, call_at, call_of}
-use Rattle.iso_message.specs.Spelling.{contents, request_bytes, present_bytes, reversal_bytes, call_bytes}
-use Rattle.iso_message.specs.Text.{counted}
+use Rattle.iso_message.specs.Reading.{kind_by, call_kind_at, unread_message, iso_request_at, iso_present_at, iso_reversal_at, call_at, call_of}
+use Rattle.iso_message.specs.Spelling.{contents, iso_request_bytes, iso_present_bytes, iso_reversal_bytes, call_bytes}
+use Rattle.iso_message.specs.Text.{with_length}
 use Rattle.iso_message.proofs.FrontAgain.{numbers_of, tied_again}
 use Rattle.iso_message.proofs.FrontSpelled.{tied_spelled}
 use Rattle.iso_message.proofs.Fronts.{request_front_bytes, present_front_bytes, reversal_front_bytes, request_front_again, present_front_again, reversal_front_again, request_front_spelled, present_front_spelled, reversal_front_spelled}
@@ -31,14 +31,14 @@ use Rattle.iso_message.proofs.Parts.{left, equal_bytes, part_again, part_spelled
 use Rattle.iso_message.proofs.Steps.{made_of, from_55}
 
 -- the kind by the type
-pub call_kind_again : (of : CallKind) (rest : List ℕ) → kind_at call_type (left 0 (call_type of ++ rest)) ≡ Ok (of, left 4 rest)
-unfolding kind_at
+pub call_kind_again : (of : CallKind) (rest : List ℕ) → call_kind_at call_type (left 0 (call_type of ++ rest)) ≡ Ok (of, left 4 rest)
+unfolding call_kind_at
 call_kind_again kind.Request rest = rw (part_again 0 0 (call_type kind.Request) rest 4 refl) refl
 call_kind_again kind.Presentment rest = rw (part_again 0 0 (call_type kind.Presentment) rest 4 refl) refl
 call_kind_again kind.Reversal rest = rw (part_again 0 0 (call_type kind.Reversal) rest 4 refl) refl
 
-pub reply_kind_again : (of : CallKind) (rest : List ℕ) → kind_at reply_type (left 0 (reply_type of ++ rest)) ≡ Ok (of, left 4 rest)
-unfolding kind_at
+pub reply_kind_again : (of : CallKind) (rest : List ℕ) → call_kind_at reply_type (left 0 (reply_type of ++ rest)) ≡ Ok (of, left 4 rest)
+unfolding call_kind_at
 reply_kind_again kind.Request rest = rw (part_again 0 0 (reply_type kind.Request) rest 4 refl) refl
 reply_kind_again kind.Presentment rest = rw (part_again 0 0 (reply_type kind.Presentment) rest 4 refl) refl
 reply_kind_again kind.Reversal rest = rw (part_again 0 0 (reply_type kind.Reversal) rest 4 refl) refl
@@ -61,8 +61,8 @@ kind_of_type type found of false false true first second third is =
     equal_bytes found (type kind.Reversal) third ∙ ap type of_is
 kind_of_type type found of false false false first second third is = let here = rw (first, second, third) at is in cc
 
-pub kind_spelled : (type : CallKind → List ℕ) (before : Left) (of : CallKind) (after : Left) → kind_at type before ≡ Ok (of, after) → before.bytes ≡ type of ++ after.bytes
-unfolding kind_at
+pub kind_spelled : (type : CallKind → List ℕ) (before : Left) (of : CallKind) (after : Left) → call_kind_at type before ≡ Ok (of, after) → before.bytes ≡ type of ++ after.bytes
+unfolding call_kind_at
 kind_spelled type before of after is =
     let first = made_of (part_at 4 before) _ (of, after) is in
     let second = made_of (kind_by type first.value.0) _ (of, after) first.behind in
@@ -84,59 +84,59 @@ block_contents (Some block) content = refl
 
 -- what a call is behind its type
 abbrev pub request_rest : RequestData → List ℕ
-request_rest f = request_front_bytes (request_front f) (counted 4 (spelled (request_items f)) ++ [])
+request_rest f = request_front_bytes (request_front f) (with_length 4 (spelled (request_items f)) ++ [])
 
 abbrev pub present_rest : PresentData → List ℕ
-present_rest f = present_front_bytes (present_front f) (counted 4 (spelled (present_items f)) ++ [])
+present_rest f = present_front_bytes (present_front f) (with_length 4 (spelled (present_items f)) ++ [])
 
 abbrev pub reversal_rest : ReversalFields → List ℕ
-reversal_rest f = reversal_front_bytes (reversal_front f) (counted 4 (spelled (reversal_items f)) ++ [])
+reversal_rest f = reversal_front_bytes (reversal_front f) (with_length 4 (spelled (reversal_items f)) ++ [])
 
-pub request_split : (f : RequestData) → request_bytes f ≡ call_type kind.Request ++ request_rest f
-unfolding request_bytes
-request_split f = rw (block_numbers f.tdf11 (counted 4 (spelled (request_items f))), block_contents f.tdf11 (counted 4 (spelled (request_items f)))) refl
+pub request_split : (f : RequestData) → iso_request_bytes f ≡ call_type kind.Request ++ request_rest f
+unfolding iso_request_bytes
+request_split f = rw (block_numbers f.tdf11 (with_length 4 (spelled (request_items f))), block_contents f.tdf11 (with_length 4 (spelled (request_items f)))) refl
 
-pub present_split : (f : PresentData) → present_bytes f ≡ call_type kind.Presentment ++ present_rest f
-unfolding present_bytes
+pub present_split : (f : PresentData) → iso_present_bytes f ≡ call_type kind.Presentment ++ present_rest f
+unfolding iso_present_bytes
 present_split f = refl
 
-pub reversal_split : (f : ReversalFields) → reversal_bytes f ≡ call_type kind.Reversal ++ reversal_rest f
-unfolding reversal_bytes
+pub reversal_split : (f : ReversalFields) → iso_reversal_bytes f ≡ call_type kind.Reversal ++ reversal_rest f
+unfolding iso_reversal_bytes
 reversal_split f = refl
 
 request_read :
     (place : ℕ) (f : RequestData) → IsRequest f → IsCoded f.paid.t5f2a f.paid.t9c → AllDecimal f.named.pan → RequestSizes f → length (spelled (request_items f)) < 10000
-    → request_at (left place (request_rest f)) ≡ Ok f
-unfolding request_at
+    → iso_request_at (left place (request_rest f)) ≡ Ok f
+unfolding iso_request_at
 request_read place f is coded decimal sizes small =
-    let front = request_front_again place f (counted 4 (spelled (request_items f)) ++ []) is coded decimal sizes in
+    let front = request_front_again place f (with_length 4 (spelled (request_items f)) ++ []) is coded decimal sizes in
     rw (front.1, items_again front.0 (request_items f) [] (request_tags f) small, request_in_again f is sizes, tied_again f.paid.t9f02 f.paid.t9f36) refl
 
 present_read :
     (place : ℕ) (f : PresentData) → IsPresent f → IsCoded f.paid.t5f2a f.paid.t9c → AllDecimal f.named.pan → PresentSizes f → length (spelled (present_items f)) < 10000
-    → present_at (left place (present_rest f)) ≡ Ok f
-unfolding present_at
+    → iso_present_at (left place (present_rest f)) ≡ Ok f
+unfolding iso_present_at
 present_read place f is coded decimal sizes small =
-    let front = present_front_again place f (counted 4 (spelled (present_items f)) ++ []) is coded decimal sizes in
+    let front = present_front_again place f (with_length 4 (spelled (present_items f)) ++ []) is coded decimal sizes in
     rw (front.1, items_again front.0 (present_items f) [] (present_tags f) small, present_in_again f is sizes, tied_again f.paid.t9f02 f.paid.t9f36) refl
 
 reversal_read :
     (place : ℕ) (f : ReversalFields) → IsReversal f → is_code f.t5f2a ≡ true → AllDecimal f.pan → ReversalSizes f → length (spelled (reversal_items f)) < 10000
-    → reversal_at (left place (reversal_rest f)) ≡ Ok f
-unfolding reversal_at
+    → iso_reversal_at (left place (reversal_rest f)) ≡ Ok f
+unfolding iso_reversal_at
 reversal_read place f is code decimal sizes small =
-    let front = reversal_front_again place f (counted 4 (spelled (reversal_items f)) ++ []) is code decimal sizes in
+    let front = reversal_front_again place f (with_length 4 (spelled (reversal_items f)) ++ []) is code decimal sizes in
     rw (front.1, items_again front.0 (reversal_items f) [] (reversal_tags f) small, reversal_in_again f is sizes, tied_again f.t9f02 f.t9f36) refl
 
-pub request_again : (f : RequestData) → IsRequest f → IsCoded f.paid.t5f2a f.paid.t9c → AllDecimal f.named.pan → RequestSizes f → length (spelled (request_items f)) < 10000 → call_of (request_bytes f) ≡ Ok (Request f)
+pub request_again : (f : RequestData) → IsRequest f → IsCoded f.paid.t5f2a f.paid.t9c → AllDecimal f.named.pan → RequestSizes f → length (spelled (request_items f)) < 10000 → call_of (iso_request_bytes f) ≡ Ok (Request f)
 request_again f is coded decimal sizes small =
     ap call_of (request_split f) ∙ rw (call_kind_again kind.Request (request_rest f), request_read 4 f is coded decimal sizes small) refl
 
-pub present_again : (f : PresentData) → IsPresent f → IsCoded f.paid.t5f2a f.paid.t9c → AllDecimal f.named.pan → PresentSizes f → length (spelled (present_items f)) < 10000 → call_of (present_bytes f) ≡ Ok (Present f)
+pub present_again : (f : PresentData) → IsPresent f → IsCoded f.paid.t5f2a f.paid.t9c → AllDecimal f.named.pan → PresentSizes f → length (spelled (present_items f)) < 10000 → call_of (iso_present_bytes f) ≡ Ok (Present f)
 present_again f is coded decimal sizes small =
     ap call_of (present_split f) ∙ rw (call_kind_again kind.Presentment (present_rest f), present_read 4 f is coded decimal sizes small) refl
 
-pub reversal_again : (f : ReversalFields) → IsReversal f → is_code f.t5f2a ≡ true → AllDecimal f.pan → ReversalSizes f → length (spelled (reversal_items f)) < 10000 → call_of (reversal_bytes f) ≡ Ok (Reverse f)
+pub reversal_again : (f : ReversalFields) → IsReversal f → is_code f.t5f2a ≡ true → AllDecimal f.pan → ReversalSizes f → length (spelled (reversal_items f)) < 10000 → call_of (iso_reversal_bytes f) ≡ Ok (Reverse f)
 reversal_again f is code decimal sizes small =
     ap call_of (reversal_split f) ∙ rw (call_kind_again kind.Reversal (reversal_rest f), reversal_read 4 f is code decimal sizes small) refl
 
@@ -153,8 +153,8 @@ record IsRequestCall (before : Left) (f : RequestData) : Type 0 where
   accepted : IsRequest f
   codes : IsCoded f.paid.t5f2a f.paid.t9c
 
-request_exact : (before : Left) (f : RequestData) → request_at before ≡ Ok f → IsRequestCall before f
-unfolding request_at
+request_exact : (before : Left) (f : RequestData) → iso_request_at before ≡ Ok f → IsRequestCall before f
+unfolding iso_request_at
 request_exact before f is =
     let first = made_of (request_front_at before) _ f is in
     let second = made_of (items_at first.value.1) _ f first.behind in
@@ -165,18 +165,18 @@ request_exact before f is =
     let front = request_front_spelled before first.value.0 first.value.1 first.made in
     let items = items_spelled first.value.1 second.value.0.0 second.value.0.1 second.value.1 second.made in
     let taken = request_taken first.value.0 second.value.0.1 third.value (from_55 (request_in first.value.0 second.value.0.1) third.value third.made) in
-    let found : RequestData = request_of first.value.0 taken.t5f34 taken.t5f24 taken.chip taken.t9f10 in
-    let counter : third.value.paid.t9f36 ≡ taken.chip.t9f36 = ap (λ (d : RequestData). d.paid.t9f36) (sym taken.is) in
-    let numbers = tied_numbers first.value.0.numbers taken.chip.t9f36 fourth.value (ap (tied first.value.0.numbers) (sym counter) ∙ fourth.made) in
-    let behind : first.value.1.bytes ≡ counted 4 (spelled (request_items found)) ++ [] =
+    let found : RequestData = request_of_parts first.value.0 taken.t5f34 taken.t5f24 taken.icc taken.t9f10 in
+    let counter : third.value.paid.t9f36 ≡ taken.icc.t9f36 = ap (λ (d : RequestData). d.paid.t9f36) (sym taken.is) in
+    let numbers = tied_numbers first.value.0.numbers taken.icc.t9f36 fourth.value (ap (tied first.value.0.numbers) (sym counter) ∙ fourth.made) in
+    let behind : first.value.1.bytes ≡ with_length 4 (spelled (request_items found)) ++ [] =
     items.front
-    ∙ ap (λ (c : List ℕ). counted 4 c ++ second.value.1.bytes) (items.exact ∙ ap spelled taken.exact)
-    ∙ ap (λ (b : List ℕ). counted 4 (spelled (request_items found)) ++ b) (nothing_spelled second.value.1 fifth.value fifth.made) in
+    ∙ ap (λ (c : List ℕ). with_length 4 c ++ second.value.1.bytes) (items.exact ∙ ap spelled taken.exact)
+    ∙ ap (λ (b : List ℕ). with_length 4 (spelled (request_items found)) ++ b) (nothing_spelled second.value.1 fifth.value fifth.made) in
     let found_is : IsRequestCall before found = record {
       exact =
           front.exact
           ∙ ap (request_front_bytes first.value.0) behind
-          ∙ ap (λ (n : Numbers). request_front_bytes (record { pan = first.value.0.pan; t9c = first.value.0.t9c; numbers = n; acceptor = first.value.0.acceptor; tdf11 = first.value.0.tdf11 }) (counted 4 (spelled (request_items found)) ++ [])) numbers;
+          ∙ ap (λ (n : Numbers). request_front_bytes (record { pan = first.value.0.pan; t9c = first.value.0.t9c; numbers = n; acceptor = first.value.0.acceptor; tdf11 = first.value.0.tdf11 }) (with_length 4 (spelled (request_items found)) ++ [])) numbers;
       accepted = record {
         account_number = front.account_number;
         sequence_number = taken.sequence_number;
@@ -196,8 +196,8 @@ record IsPresentCall (before : Left) (f : PresentData) : Type 0 where
   accepted : IsPresent f
   codes : IsCoded f.paid.t5f2a f.paid.t9c
 
-present_exact : (before : Left) (f : PresentData) → present_at before ≡ Ok f → IsPresentCall before f
-unfolding present_at
+present_exact : (before : Left) (f : PresentData) → iso_present_at before ≡ Ok f → IsPresentCall before f
+unfolding iso_present_at
 present_exact before f is =
     let first = made_of (present_front_at before) _ f is in
     let second = made_of (items_at first.value.1) _ f first.behind in
@@ -208,18 +208,18 @@ present_exact before f is =
     let front = present_front_spelled before first.value.0 first.value.1 first.made in
     let items = items_spelled first.value.1 second.value.0.0 second.value.0.1 second.value.1 second.made in
     let taken = present_taken first.value.0 second.value.0.1 third.value (from_55 (present_in first.value.0 second.value.0.1) third.value third.made) in
-    let found : PresentData = present_of first.value.0 taken.t5f34 taken.chip taken.t9f10 in
-    let counter : third.value.paid.t9f36 ≡ taken.chip.t9f36 = ap (λ (d : PresentData). d.paid.t9f36) (sym taken.is) in
-    let numbers = tied_numbers first.value.0.numbers taken.chip.t9f36 fourth.value (ap (tied first.value.0.numbers) (sym counter) ∙ fourth.made) in
-    let behind : first.value.1.bytes ≡ counted 4 (spelled (present_items found)) ++ [] =
+    let found : PresentData = present_of first.value.0 taken.t5f34 taken.icc taken.t9f10 in
+    let counter : third.value.paid.t9f36 ≡ taken.icc.t9f36 = ap (λ (d : PresentData). d.paid.t9f36) (sym taken.is) in
+    let numbers = tied_numbers first.value.0.numbers taken.icc.t9f36 fourth.value (ap (tied first.value.0.numbers) (sym counter) ∙ fourth.made) in
+    let behind : first.value.1.bytes ≡ with_length 4 (spelled (present_items found)) ++ [] =
     items.front
-    ∙ ap (λ (c : List ℕ). counted 4 c ++ second.value.1.bytes) (items.exact ∙ ap spelled taken.exact)
-    ∙ ap (λ (b : List ℕ). counted 4 (spelled (present_items found)) ++ b) (nothing_spelled second.value.1 fifth.value fifth.made) in
+    ∙ ap (λ (c : List ℕ). with_length 4 c ++ second.value.1.bytes) (items.exact ∙ ap spelled taken.exact)
+    ∙ ap (λ (b : List ℕ). with_length 4 (spelled (present_items found)) ++ b) (nothing_spelled second.value.1 fifth.value fifth.made) in
     let found_is : IsPresentCall before found = record {
       exact =
           front.exact
           ∙ ap (present_front_bytes first.value.0) behind
-          ∙ ap (λ (n : Numbers). present_front_bytes (record { pan = first.value.0.pan; t9c = first.value.0.t9c; numbers = n; t8a = first.value.0.t8a; acceptor = first.value.0.acceptor }) (counted 4 (spelled (present_items found)) ++ [])) numbers;
+          ∙ ap (λ (n : Numbers). present_front_bytes (record { pan = first.value.0.pan; t9c = first.value.0.t9c; numbers = n; t8a = first.value.0.t8a; acceptor = first.value.0.acceptor }) (with_length 4 (spelled (present_items found)) ++ [])) numbers;
       accepted = record {
         account_number = front.account_number;
         sequence_number = taken.sequence_number;
@@ -238,8 +238,8 @@ record IsReversalCall (before : Left) (f : ReversalFields) : Type 0 where
   accepted : IsReversal f
   codes : is_code f.t5f2a ≡ true
 
-reversal_exact : (before : Left) (f : ReversalFields) → reversal_at before ≡ Ok f → IsReversalCall before f
-unfolding reversal_at
+reversal_exact : (before : Left) (f : ReversalFields) → iso_reversal_at before ≡ Ok f → IsReversalCall before f
+unfolding iso_reversal_at
 reversal_exact before f is =
     let first = made_of (reversal_front_at before) _ f is in
     let second = made_of (items_at first.value.1) _ f first.behind in
@@ -253,15 +253,15 @@ reversal_exact before f is =
     let found : ReversalFields = reversal_of first.value.0 taken.t5f34 taken.t9f36 in
     let counter : third.value.t9f36 ≡ taken.t9f36 = ap (λ (d : ReversalFields). d.t9f36) (sym taken.is) in
     let numbers = tied_numbers first.value.0.numbers taken.t9f36 fourth.value (ap (tied first.value.0.numbers) (sym counter) ∙ fourth.made) in
-    let behind : first.value.1.bytes ≡ counted 4 (spelled (reversal_items found)) ++ [] =
+    let behind : first.value.1.bytes ≡ with_length 4 (spelled (reversal_items found)) ++ [] =
     items.front
-    ∙ ap (λ (c : List ℕ). counted 4 c ++ second.value.1.bytes) (items.exact ∙ ap spelled taken.exact)
-    ∙ ap (λ (b : List ℕ). counted 4 (spelled (reversal_items found)) ++ b) (nothing_spelled second.value.1 fifth.value fifth.made) in
+    ∙ ap (λ (c : List ℕ). with_length 4 c ++ second.value.1.bytes) (items.exact ∙ ap spelled taken.exact)
+    ∙ ap (λ (b : List ℕ). with_length 4 (spelled (reversal_items found)) ++ b) (nothing_spelled second.value.1 fifth.value fifth.made) in
     let found_is : IsReversalCall before found = record {
       exact =
           front.exact
           ∙ ap (reversal_front_bytes first.value.0) behind
-          ∙ ap (λ (n : Numbers). reversal_front_bytes (record { pan = first.value.0.pan; numbers = n; t8a = first.value.0.t8a; acceptor = first.value.0.acceptor }) (counted 4 (spelled (reversal_items found)) ++ [])) numbers;
+          ∙ ap (λ (n : Numbers). reversal_front_bytes (record { pan = first.value.0.pan; numbers = n; t8a = first.value.0.t8a; acceptor = first.value.0.acceptor }) (with_length 4 (spelled (reversal_items found)) ++ [])) numbers;
       accepted = record {
         account_number = front.account_number;
         sequence_number = taken.sequence_number;
@@ -280,7 +280,7 @@ pub record IsWritten (bytes : List ℕ) (call : Incoming) : Type 0 where
 
 call_exact : (of : CallKind) (before : Left) (call : Incoming) → call_at of before ≡ Ok call → IsWritten (call_type of ++ before.bytes) call
 call_exact kind.Request before call is =
-    let step = made_of (request_at before) _ call is in
+    let step = made_of (iso_request_at before) _ call is in
     let same : Request step.value ≡ call = cc in
     let found = request_exact before step.value step.made in
     let written : IsWritten (call_type kind.Request ++ before.bytes) (Request step.value) = record {
@@ -290,7 +290,7 @@ call_exact kind.Request before call is =
     } in
     subst (IsWritten (call_type kind.Request ++ before.bytes)) same written
 call_exact kind.Presentment before call is =
-    let step = made_of (present_at before) _ call is in
+    let step = made_of (iso_present_at before) _ call is in
     let same : Present step.value ≡ call = cc in
     let found = present_exact before step.value step.made in
     let written : IsWritten (call_type kind.Presentment ++ before.bytes) (Present step.value) = record {
@@ -300,7 +300,7 @@ call_exact kind.Presentment before call is =
     } in
     subst (IsWritten (call_type kind.Presentment ++ before.bytes)) same written
 call_exact kind.Reversal before call is =
-    let step = made_of (reversal_at before) _ call is in
+    let step = made_of (iso_reversal_at before) _ call is in
     let same : Reverse step.value ≡ call = cc in
     let found = reversal_exact before step.value step.made in
     let written : IsWritten (call_type kind.Reversal ++ before.bytes) (Reverse step.value) = record {
@@ -312,8 +312,8 @@ call_exact kind.Reversal before call is =
 
 pub call_spelled : (bytes : List ℕ) (call : Incoming) → call_of bytes ≡ Ok call → IsWritten bytes call
 call_spelled bytes call is =
-    let step = made_of (kind_at call_type (whole bytes)) _ call is in
-    let type_is = kind_spelled call_type (whole bytes) step.value.0 step.value.1 step.made in
+    let step = made_of (call_kind_at call_type (unread_message bytes)) _ call is in
+    let type_is = kind_spelled call_type (unread_message bytes) step.value.0 step.value.1 step.made in
     subst (λ (b : List ℕ). IsWritten b call) (sym type_is) (call_exact step.value.0 step.value.1 call step.behind)
 
 -- what a reader says of the call that it gives

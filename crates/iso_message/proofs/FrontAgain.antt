@@ -7,27 +7,27 @@ use Rattle.emv_dict.specs.Nibbles.{nibbles, packed}
 use Rattle.emv_dict.proofs.HexDigits.{length-nibbles}
 use Rattle.emv_dict.specs.Pan.{HasPanLength, is_pan_length}
 use Rattle.emv_dict.specs.Settings.{is_code}
-use Rattle.auth_message.specs.Accepted.{AreDigits}
+use Rattle.auth_message.specs.Accepted.{AreDigitBytes}
 use Rattle.iso_message.specs.declared.front.Numbers.{Numbers}
-use Rattle.iso_message.specs.Front.{account_at, processing_at, numbers_at, acceptor_at, pin_at, tied}
-use Rattle.iso_message.specs.Spelling.{account_field, processing_field, amount_field, audit_field, reference_field, terminal_field, currency_field}
-use Rattle.iso_message.specs.Text.{text, are_numerals, zeros, counter, decimal_digits}
+use Rattle.iso_message.specs.Front.{account_field_at, processing_at, numbers_at, acceptor_at, pin_at, tied}
+use Rattle.iso_message.specs.Spelling.{account_number_field, processing_field, amount_field, audit_field, reference_field, terminal_field, currency_field}
+use Rattle.iso_message.specs.Text.{digit_characters, are_numerals, zeros, counter_digits, decimal_digits}
 use Rattle.iso_message.proofs.Numerals.{at_most, text_numerals, text_values, text_length, decimals, decimals_length, nibbles_decimal, packed_text, all_decimal}
 use Rattle.iso_message.proofs.Parts.{left, same_bytes, part_again, digits_again, two_counted}
 
 -- a step gives this value, and leaves this
 abbrev pub after_account : ℕ → List ℕ → ℕ
-after_account place pan = (place + 2) + length (text pan)
+after_account place pan = (place + 2) + length (digit_characters pan)
 
-pub account_again : (place : ℕ) (pan rest : List ℕ) → HasPanLength pan → AllDecimal pan → account_at (left place ((account_field pan).1 ++ rest)) ≡ Ok (pan, left (after_account place pan) rest)
-unfolding account_at
+pub account_again : (place : ℕ) (pan rest : List ℕ) → HasPanLength pan → AllDecimal pan → account_field_at (left place ((account_number_field pan).1 ++ rest)) ≡ Ok (pan, left (after_account place pan) rest)
+unfolding account_field_at
 account_again place pan rest sized decimal =
     let all = all_decimal pan decimal in
     let parts = both (nat_le 13 (length pan)) (nat_le (length pan) 19) sized in
     let few : length pan ≤ 19 = at_most (length pan) 19 parts.1 in
-    let same : length (text pan) ≡ length pan = text_length pan in
-    let right : is_pan_length (length (text pan)) ≡ true = ap is_pan_length same ∙ sized in
-    rw (two_counted 2 place (text pan) rest (omega arith), text_numerals pan all, right, text_values pan all) refl
+    let same : length (digit_characters pan) ≡ length pan = text_length pan in
+    let right : is_pan_length (length (digit_characters pan)) ≡ true = ap is_pan_length same ∙ sized in
+    rw (two_counted 2 place (digit_characters pan) rest (omega arith), text_numerals pan all, right, text_values pan all) refl
 
 -- one byte of two digits, and two of a currency
 one_byte : (byte : ℕ) → has_digits byte ≡ true → (48 + byte / 16) % 16 * 16 + (48 + byte % 16) % 16 ≡ byte
@@ -48,32 +48,32 @@ processing_one : (place byte : ℕ) (rest : List ℕ) → has_digits byte ≡ tr
 unfolding processing_at nibbles packed
 processing_one place byte rest is =
     let front : List ℕ = (48 + byte / 16) ∷ (48 + byte % 16) ∷ 48 ∷ 48 ∷ 48 ∷ 48 ∷ [] in
-    let decimal : are_numerals (text (byte / 16 ∷ byte % 16 ∷ 0 ∷ 0 ∷ 0 ∷ 0 ∷ [])) ≡ true = text_numerals (byte / 16 ∷ byte % 16 ∷ 0 ∷ 0 ∷ 0 ∷ 0 ∷ []) (two_decimal byte is) in
+    let decimal : are_numerals (digit_characters (byte / 16 ∷ byte % 16 ∷ 0 ∷ 0 ∷ 0 ∷ 0 ∷ [])) ≡ true = text_numerals (byte / 16 ∷ byte % 16 ∷ 0 ∷ 0 ∷ 0 ∷ 0 ∷ []) (two_decimal byte is) in
     rw (digits_again 3 place front rest 6 refl decimal) (ap (λ (b : ℕ). Ok (b ∷ [], left (place + 6) rest)) (one_byte byte is))
 
-pub processing_again : (place : ℕ) (t9c rest : List ℕ) → length t9c ≡ 1 → AreDigits t9c → processing_at (left place ((processing_field t9c).1 ++ rest)) ≡ Ok (t9c, left (place + 6) rest)
+pub processing_again : (place : ℕ) (t9c rest : List ℕ) → length t9c ≡ 1 → AreDigitBytes t9c → processing_at (left place ((processing_field t9c).1 ++ rest)) ≡ Ok (t9c, left (place + 6) rest)
 processing_again place [] rest size digits = absurd (omega arith)
 processing_again place (byte ∷ []) rest size digits = processing_one place byte rest (both (has_digits byte) true digits).0
 processing_again place (byte ∷ other ∷ others) rest size digits = absurd (omega arith)
 
 abbrev pub numbers_of : List ℕ → List ℕ → Numbers
-numbers_of t9f02 t9f36 = record { t9f02 = t9f02; audit = counter t9f36; reference = zeros 6 ++ counter t9f36 }
+numbers_of t9f02 t9f36 = record { t9f02 = t9f02; audit = counter_digits t9f36; reference = zeros 6 ++ counter_digits t9f36 }
 
-counter_length : (t9f36 : List ℕ) → length (counter t9f36) ≡ 6
-unfolding counter
+counter_length : (t9f36 : List ℕ) → length (counter_digits t9f36) ≡ 6
+unfolding counter_digits
 counter_length t9f36 = let number = slice_index t9f36 0 * 256 + slice_index t9f36 1 in text_length (decimal_digits 6 number) ∙ decimals_length 6 number
 
-counter_numerals : (t9f36 : List ℕ) → are_numerals (counter t9f36) ≡ true
-unfolding counter
+counter_numerals : (t9f36 : List ℕ) → are_numerals (counter_digits t9f36) ≡ true
+unfolding counter_digits
 counter_numerals t9f36 = let number = slice_index t9f36 0 * 256 + slice_index t9f36 1 in text_numerals (decimal_digits 6 number) (decimals 6 number)
 
 pub numbers_again :
-    (place : ℕ) (t9f02 t9f36 rest : List ℕ) → length t9f02 ≡ 6 → AreDigits t9f02
+    (place : ℕ) (t9f02 t9f36 rest : List ℕ) → length t9f02 ≡ 6 → AreDigitBytes t9f02
     → numbers_at (left place ((amount_field t9f02).1 ++ ((audit_field t9f36).1 ++ ((reference_field t9f36).1 ++ rest)))) ≡ Ok (numbers_of t9f02 t9f36, left (((place + 12) + 6) + 12) rest)
 unfolding numbers_at
 numbers_again place t9f02 t9f36 rest size digits =
-    let amount = text (nibbles t9f02) in
-    let six = counter t9f36 in
+    let amount = digit_characters (nibbles t9f02) in
+    let six = counter_digits t9f36 in
     let twelve : length amount ≡ 12 = text_length (nibbles t9f02) ∙ length-nibbles t9f02 ∙ omega arith in
     let last : length (zeros 6 ++ six) ≡ 12 = omega (arith, length-append (zeros 6) six, counter_length t9f36) in
     rw (
@@ -94,7 +94,7 @@ acceptor_two place t9f1c a b rest size code =
     let same : a % 16 ≡ a = omega arith in
     let least : nat_le (a % 16) 9 ≡ true = ap (λ n. nat_le n 9) same ∙ parts.0 in
     let front : List ℕ = (48 + a % 16) ∷ (48 + b / 16) ∷ (48 + b % 16) ∷ [] in
-    let all : are_numerals (text (a % 16 ∷ b / 16 ∷ b % 16 ∷ [])) ≡ true = text_numerals (a % 16 ∷ b / 16 ∷ b % 16 ∷ []) (rw (least, halves.0, halves.1) refl) in
+    let all : are_numerals (digit_characters (a % 16 ∷ b / 16 ∷ b % 16 ∷ [])) ≡ true = text_numerals (a % 16 ∷ b / 16 ∷ b % 16 ∷ []) (rw (least, halves.0, halves.1) refl) in
     let first : 0 * 16 + (48 + a % 16) % 16 ≡ a = omega arith in
     rw (part_again place place t9f1c (front ++ rest) 8 size, digits_again 49 (place + 8) front rest 3 refl all)
     (ap (λ (n : ℕ). Ok (record { t9f1c = t9f1c; t5f2a = n ∷ ((48 + b / 16) % 16 * 16 + (48 + b % 16) % 16) ∷ [] }, left ((place + 8) + 3) rest)) first
@@ -114,4 +114,4 @@ pin_again place block rest size = rw (part_again place place block rest 8 size) 
 
 pub tied_again : (t9f02 t9f36 : List ℕ) → tied (numbers_of t9f02 t9f36) t9f36 ≡ Ok tt
 unfolding tied
-tied_again t9f02 t9f36 = rw (same_bytes (counter t9f36)) refl
+tied_again t9f02 t9f36 = rw (same_bytes (counter_digits t9f36)) refl

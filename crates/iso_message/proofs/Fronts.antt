@@ -5,17 +5,17 @@ use Rattle.emv_dict.specs.Digits.{AllDecimal}
 use Rattle.emv_dict.specs.Pan.{HasPanLength}
 use Rattle.emv_dict.specs.Settings.{is_code}
 use Rattle.auth_message.specs.declared.reversal.ReversalFields.{ReversalFields}
-use Rattle.auth_message.specs.Accepted.{AreDigits, IsRequest, IsPresent, IsReversal}
+use Rattle.auth_message.specs.Accepted.{AreDigitBytes, IsRequest, IsPresent, IsReversal}
 use Rattle.auth_message.specs.Data.{RequestData, PresentData}
 use Rattle.auth_message.specs.Whole.{IsCoded}
 use Rattle.auth_message.proofs.Again.{RequestSizes, PresentSizes, ReversalSizes}
 use Rattle.iso_message.specs.declared.front.RequestFront.{RequestFront}
 use Rattle.iso_message.specs.declared.front.PresentFront.{PresentFront}
 use Rattle.iso_message.specs.declared.front.ReversalFront.{ReversalFront}
-use Rattle.iso_message.specs.Front.{account_at, processing_at, numbers_at, acceptor_at, pin_named, request_bitmap_at, pin_at, request_front_at, present_front_at, reversal_front_at}
+use Rattle.iso_message.specs.Front.{account_field_at, processing_at, numbers_at, acceptor_at, pin_named, request_bitmap_at, pin_at, request_front_at, present_front_at, reversal_front_at}
 use Rattle.iso_message.specs.Layout.{bitmap, request_numbers, present_numbers, reversal_numbers}
 use Rattle.iso_message.specs.Left.{Left, part_at, bits_at}
-use Rattle.iso_message.specs.Spelling.{account_field, processing_field, amount_field, audit_field, reference_field, terminal_field, currency_field}
+use Rattle.iso_message.specs.Spelling.{account_number_field, processing_field, amount_field, audit_field, reference_field, terminal_field, currency_field}
 use Rattle.iso_message.proofs.FrontAgain.{after_account, account_again, processing_again, numbers_again, acceptor_again, pin_again}
 use Rattle.iso_message.proofs.FrontSpelled.{account_spelled, processing_spelled, numbers_spelled, acceptor_spelled}
 use Rattle.iso_message.proofs.ItemsAgain.{request_front, present_front, reversal_front}
@@ -43,7 +43,7 @@ request_bitmap_again place pin rest = rw (part_again place place (bitmap (reques
 abbrev pub request_front_bytes : RequestFront → List ℕ → List ℕ
 request_front_bytes front rest =
     bitmap (request_numbers (is_some front.tdf11))
-    ++ ((account_field front.pan).1
+    ++ ((account_number_field front.pan).1
     ++ ((processing_field front.t9c).1
     ++ ((amount_field front.numbers.t9f02).1
     ++ (front.numbers.audit ++ (front.numbers.reference ++ ((terminal_field front.acceptor.t9f1c).1 ++ ((currency_field front.acceptor.t5f2a).1 ++ (unwrap_or front.tdf11 [] ++ rest))))))))
@@ -51,7 +51,7 @@ request_front_bytes front rest =
 abbrev pub present_front_bytes : PresentFront → List ℕ → List ℕ
 present_front_bytes front rest =
     bitmap present_numbers
-    ++ ((account_field front.pan).1
+    ++ ((account_number_field front.pan).1
     ++ ((processing_field front.t9c).1
     ++ ((amount_field front.numbers.t9f02).1
     ++ (front.numbers.audit ++ (front.numbers.reference ++ (front.t8a ++ ((terminal_field front.acceptor.t9f1c).1 ++ ((currency_field front.acceptor.t5f2a).1 ++ rest))))))))
@@ -59,7 +59,7 @@ present_front_bytes front rest =
 abbrev pub reversal_front_bytes : ReversalFront → List ℕ → List ℕ
 reversal_front_bytes front rest =
     bitmap reversal_numbers
-    ++ ((account_field front.pan).1
+    ++ ((account_number_field front.pan).1
     ++ ((amount_field front.numbers.t9f02).1
     ++ (front.numbers.audit ++ (front.numbers.reference ++ (front.t8a ++ ((terminal_field front.acceptor.t9f1c).1 ++ ((currency_field front.acceptor.t5f2a).1 ++ rest)))))))
 
@@ -85,7 +85,7 @@ request_front_again place f rest is coded decimal sizes =
     let block = block_again fifth f.tdf11 rest sizes.3 in (
       block.0,
       rw (
-        request_bitmap_again place (is_some f.tdf11) ((account_field f.named.pan).1 ++ ((processing_field f.paid.t9c).1 ++ numbers_tail)),
+        request_bitmap_again place (is_some f.tdf11) ((account_number_field f.named.pan).1 ++ ((processing_field f.paid.t9c).1 ++ numbers_tail)),
         account_again first f.named.pan ((processing_field f.paid.t9c).1 ++ numbers_tail) is.account_number decimal,
         processing_again second f.paid.t9c numbers_tail sizes.2.6 coded.transaction_type,
         numbers_again third f.paid.t9f02 f.paid.t9f36 acceptor_tail sizes.2.0 is.amount,
@@ -107,7 +107,7 @@ present_front_again place f rest is coded decimal sizes =
     let fifth = fourth + 2 in (
       (fifth + 8) + 3,
       rw (
-        bits_again place (bitmap present_numbers) ((account_field f.named.pan).1 ++ ((processing_field f.paid.t9c).1 ++ numbers_tail)) (bitmap_size present_numbers),
+        bits_again place (bitmap present_numbers) ((account_number_field f.named.pan).1 ++ ((processing_field f.paid.t9c).1 ++ numbers_tail)) (bitmap_size present_numbers),
         account_again first f.named.pan ((processing_field f.paid.t9c).1 ++ numbers_tail) is.account_number decimal,
         processing_again second f.paid.t9c numbers_tail sizes.1.6 coded.transaction_type,
         numbers_again third f.paid.t9f02 f.paid.t9f36 (f.t8a ++ acceptor_tail) sizes.1.0 is.amount,
@@ -128,7 +128,7 @@ reversal_front_again place f rest is code decimal sizes =
     let fourth = third + 2 in (
       (fourth + 8) + 3,
       rw (
-        bits_again place (bitmap reversal_numbers) ((account_field f.pan).1 ++ numbers_tail) (bitmap_size reversal_numbers),
+        bits_again place (bitmap reversal_numbers) ((account_number_field f.pan).1 ++ numbers_tail) (bitmap_size reversal_numbers),
         account_again first f.pan numbers_tail is.account_number decimal,
         numbers_again second f.t9f02 f.t9f36 (f.t8a ++ acceptor_tail) sizes.3 is.amount,
         part_again third third f.t8a acceptor_tail 2 sizes.5,
@@ -210,16 +210,16 @@ reversal_joined b0 b1 b2 b3 b4 b5 bits account amount audit reference code termi
 pub record IsRequestFront (before : Left) (front : RequestFront) (after : Left) : Type 0 where
   pub exact : before.bytes ≡ request_front_bytes front after.bytes
   pub account_number : HasPanLength front.pan
-  pub amount : AreDigits front.numbers.t9f02
-  pub currency : AreDigits front.acceptor.t5f2a
+  pub amount : AreDigitBytes front.numbers.t9f02
+  pub currency : AreDigitBytes front.acceptor.t5f2a
   pub code : is_code front.acceptor.t5f2a ≡ true
-  pub transaction_type : AreDigits front.t9c
+  pub transaction_type : AreDigitBytes front.t9c
 
 pub request_front_spelled : (before : Left) (front : RequestFront) (after : Left) → request_front_at before ≡ Ok (front, after) → IsRequestFront before front after
 unfolding request_front_at
 request_front_spelled before front after is =
     let first = made_of (request_bitmap_at before) _ (front, after) is in
-    let second = made_of (account_at first.value.1) _ (front, after) first.behind in
+    let second = made_of (account_field_at first.value.1) _ (front, after) first.behind in
     let third = made_of (processing_at second.value.1) _ (front, after) second.behind in
     let fourth = made_of (numbers_at third.value.1) _ (front, after) third.behind in
     let fifth = made_of (acceptor_at fourth.value.1) _ (front, after) fourth.behind in
@@ -234,7 +234,7 @@ request_front_spelled before front after is =
     let block = block_spelled first.value.0 fifth.value.1 sixth.value.0 sixth.value.1 sixth.made in
     let read_is : IsRequestFront before read sixth.value.1 = record {
       exact = request_joined before.bytes first.value.1.bytes second.value.1.bytes third.value.1.bytes fourth.value.1.bytes fifth.value.1.bytes sixth.value.1.bytes
-          (bitmap (request_numbers (is_some read.tdf11))) (account_field read.pan).1 (processing_field read.t9c).1 (amount_field read.numbers.t9f02).1 read.numbers.audit read.numbers.reference
+          (bitmap (request_numbers (is_some read.tdf11))) (account_number_field read.pan).1 (processing_field read.t9c).1 (amount_field read.numbers.t9f02).1 read.numbers.audit read.numbers.reference
           (terminal_field read.acceptor.t9f1c).1 (currency_field read.acceptor.t5f2a).1 (unwrap_or read.tdf11 []) (bits ∙ ap (λ (n : Bool). bitmap (request_numbers n) ++ first.value.1.bytes) block.0) account.front processing.front numbers.front acceptor.front block.1;
       account_number = account.sized;
       amount = numbers.digits;
@@ -247,16 +247,16 @@ request_front_spelled before front after is =
 pub record IsPresentFront (before : Left) (front : PresentFront) (after : Left) : Type 0 where
   pub exact : before.bytes ≡ present_front_bytes front after.bytes
   pub account_number : HasPanLength front.pan
-  pub amount : AreDigits front.numbers.t9f02
-  pub currency : AreDigits front.acceptor.t5f2a
+  pub amount : AreDigitBytes front.numbers.t9f02
+  pub currency : AreDigitBytes front.acceptor.t5f2a
   pub code : is_code front.acceptor.t5f2a ≡ true
-  pub transaction_type : AreDigits front.t9c
+  pub transaction_type : AreDigitBytes front.t9c
 
 pub present_front_spelled : (before : Left) (front : PresentFront) (after : Left) → present_front_at before ≡ Ok (front, after) → IsPresentFront before front after
 unfolding present_front_at
 present_front_spelled before front after is =
     let first = made_of (bits_at (bitmap present_numbers) before) _ (front, after) is in
-    let second = made_of (account_at first.value) _ (front, after) first.behind in
+    let second = made_of (account_field_at first.value) _ (front, after) first.behind in
     let third = made_of (processing_at second.value.1) _ (front, after) second.behind in
     let fourth = made_of (numbers_at third.value.1) _ (front, after) third.behind in
     let fifth = made_of (part_at 2 fourth.value.1) _ (front, after) fourth.behind in
@@ -271,7 +271,7 @@ present_front_spelled before front after is =
     let acceptor = acceptor_spelled fifth.value.1 sixth.value.0 sixth.value.1 sixth.made in
     let read_is : IsPresentFront before read sixth.value.1 = record {
       exact = present_joined before.bytes first.value.bytes second.value.1.bytes third.value.1.bytes fourth.value.1.bytes fifth.value.1.bytes sixth.value.1.bytes
-          (bitmap present_numbers) (account_field read.pan).1 (processing_field read.t9c).1 (amount_field read.numbers.t9f02).1 read.numbers.audit read.numbers.reference read.t8a
+          (bitmap present_numbers) (account_number_field read.pan).1 (processing_field read.t9c).1 (amount_field read.numbers.t9f02).1 read.numbers.audit read.numbers.reference read.t8a
           (terminal_field read.acceptor.t9f1c).1 (currency_field read.acceptor.t5f2a).1 bits account.front processing.front numbers.front code.front acceptor.front;
       account_number = account.sized;
       amount = numbers.digits;
@@ -284,15 +284,15 @@ present_front_spelled before front after is =
 pub record IsReversalFront (before : Left) (front : ReversalFront) (after : Left) : Type 0 where
   pub exact : before.bytes ≡ reversal_front_bytes front after.bytes
   pub account_number : HasPanLength front.pan
-  pub amount : AreDigits front.numbers.t9f02
-  pub currency : AreDigits front.acceptor.t5f2a
+  pub amount : AreDigitBytes front.numbers.t9f02
+  pub currency : AreDigitBytes front.acceptor.t5f2a
   pub code : is_code front.acceptor.t5f2a ≡ true
 
 pub reversal_front_spelled : (before : Left) (front : ReversalFront) (after : Left) → reversal_front_at before ≡ Ok (front, after) → IsReversalFront before front after
 unfolding reversal_front_at
 reversal_front_spelled before front after is =
     let first = made_of (bits_at (bitmap reversal_numbers) before) _ (front, after) is in
-    let second = made_of (account_at first.value) _ (front, after) first.behind in
+    let second = made_of (account_field_at first.value) _ (front, after) first.behind in
     let fourth = made_of (numbers_at second.value.1) _ (front, after) second.behind in
     let fifth = made_of (part_at 2 fourth.value.1) _ (front, after) fourth.behind in
     let sixth = made_of (acceptor_at fifth.value.1) _ (front, after) fifth.behind in
@@ -305,7 +305,7 @@ reversal_front_spelled before front after is =
     let acceptor = acceptor_spelled fifth.value.1 sixth.value.0 sixth.value.1 sixth.made in
     let read_is : IsReversalFront before read sixth.value.1 = record {
       exact = reversal_joined before.bytes first.value.bytes second.value.1.bytes fourth.value.1.bytes fifth.value.1.bytes sixth.value.1.bytes
-          (bitmap reversal_numbers) (account_field read.pan).1 (amount_field read.numbers.t9f02).1 read.numbers.audit read.numbers.reference read.t8a
+          (bitmap reversal_numbers) (account_number_field read.pan).1 (amount_field read.numbers.t9f02).1 read.numbers.audit read.numbers.reference read.t8a
           (terminal_field read.acceptor.t9f1c).1 (currency_field read.acceptor.t5f2a).1 bits account.front numbers.front code.front acceptor.front;
       account_number = account.sized;
       amount = numbers.digits;

@@ -4,15 +4,15 @@ use Rattle.ber_tlv.specs.Written.{written}
 use Rattle.auth_message.specs.Spelling.{spelled}
 use Rattle.auth_message.proofs.Spelled.{spelled_append}
 
-pub request_items_joined : (number chip : List (ℕ × List ℕ)) (t5f24 t9f10 : List ℕ)
-    → (((([] ++ spelled number) ++ written 0x5F24 t5f24) ++ spelled chip) ++ written 0x9F10 t9f10) ≡ spelled (number ++ ((0x5F24, t5f24) ∷ (chip ++ (0x9F10, t9f10) ∷ [])))
-request_items_joined number chip t5f24 t9f10 =
-    simp append_assoc (sym (spelled_append number _ ∙ ap (λ b. spelled number ++ (written 0x5F24 t5f24 ++ b)) (spelled_append chip _ ∙ ap (λ b. spelled chip ++ b) (append-nil (written 0x9F10 t9f10)))))
+pub request_items_joined : (number icc : List (ℕ × List ℕ)) (t5f24 t9f10 : List ℕ)
+    → (((([] ++ spelled number) ++ written 0x5F24 t5f24) ++ spelled icc) ++ written 0x9F10 t9f10) ≡ spelled (number ++ ((0x5F24, t5f24) ∷ (icc ++ (0x9F10, t9f10) ∷ [])))
+request_items_joined number icc t5f24 t9f10 =
+    simp append_assoc (sym (spelled_append number _ ∙ ap (λ b. spelled number ++ (written 0x5F24 t5f24 ++ b)) (spelled_append icc _ ∙ ap (λ b. spelled icc ++ b) (append-nil (written 0x9F10 t9f10)))))
 
-pub present_items_joined : (number chip : List (ℕ × List ℕ)) (t9f10 : List ℕ)
-    → ((([] ++ spelled number) ++ spelled chip) ++ written 0x9F10 t9f10) ≡ spelled (number ++ (chip ++ (0x9F10, t9f10) ∷ []))
-present_items_joined number chip t9f10 =
-    simp append_assoc (sym (spelled_append number _ ∙ ap (λ b. spelled number ++ b) (spelled_append chip _ ∙ ap (λ b. spelled chip ++ b) (append-nil (written 0x9F10 t9f10)))))
+pub present_items_joined : (number icc : List (ℕ × List ℕ)) (t9f10 : List ℕ)
+    → ((([] ++ spelled number) ++ spelled icc) ++ written 0x9F10 t9f10) ≡ spelled (number ++ (icc ++ (0x9F10, t9f10) ∷ []))
+present_items_joined number icc t9f10 =
+    simp append_assoc (sym (spelled_append number _ ∙ ap (λ b. spelled number ++ b) (spelled_append icc _ ∙ ap (λ b. spelled icc ++ b) (append-nil (written 0x9F10 t9f10)))))
 
 pub reversal_items_joined : (number : List (ℕ × List ℕ)) (t9f36 : List ℕ) → (([] ++ spelled number) ++ written 0x9F36 t9f36) ≡ spelled (number ++ (0x9F36, t9f36) ∷ [])
 reversal_items_joined number t9f36 = sym (spelled_append number _ ∙ ap (λ b. spelled number ++ b) (append-nil (written 0x9F36 t9f36)))

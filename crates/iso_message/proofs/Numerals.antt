@@ -11,7 +11,7 @@ use Rattle.emv_dict.specs.Digits.{AllDecimal}
 use Rattle.emv_dict.specs.Nibbles.{nibbles, packed}
 use Rattle.emv_dict.proofs.HexDigits.{nibbles-packed}
 use Rattle.auth_message.specs.Field.{are_digits}
-use Rattle.iso_message.specs.Text.{text, values, is_numeral, are_numerals, decimal_digits}
+use Rattle.iso_message.specs.Text.{digit_characters, values, is_numeral, are_numerals, decimal_digits}
 
 -- each number is a decimal digit
 abbrev pub are_decimal : List ℕ → Bool
@@ -56,22 +56,22 @@ small_number (a ∷ b ∷ c ∷ d ∷ []) few are =
 small_number (a ∷ b ∷ c ∷ d ∷ e ∷ rest) few are = absurd (omega arith)
 
 -- the characters of digits are numerals, and have their digits
-pub text_numerals : (digits : List ℕ) → are_decimal digits ≡ true → are_numerals (text digits) ≡ true
+pub text_numerals : (digits : List ℕ) → are_decimal digits ≡ true → are_numerals (digit_characters digits) ≡ true
 text_numerals [] all = refl
 text_numerals (digit ∷ digits) all =
     let parts = both (nat_le digit 9) _ all in
     let small : digit ≤ 9 = at_most digit 9 parts.0 in
     rw (is_numeral_in (48 + digit) (omega arith) (omega arith)) (text_numerals digits parts.1)
 
-pub text_values : (digits : List ℕ) → are_decimal digits ≡ true → values (text digits) ≡ digits
+pub text_values : (digits : List ℕ) → are_decimal digits ≡ true → values (digit_characters digits) ≡ digits
 text_values [] all = refl
 text_values (digit ∷ digits) all =
     let parts = both (nat_le digit 9) _ all in
     let small : digit ≤ 9 = at_most digit 9 parts.0 in
     let here : (48 + digit) % 16 ≡ digit = omega arith in
-    ap (λ (n : ℕ). n ∷ values (text digits)) here ∙ ap (λ (ns : List ℕ). digit ∷ ns) (text_values digits parts.1)
+    ap (λ (n : ℕ). n ∷ values (digit_characters digits)) here ∙ ap (λ (ns : List ℕ). digit ∷ ns) (text_values digits parts.1)
 
-pub text_length : (digits : List ℕ) → length (text digits) ≡ length digits
+pub text_length : (digits : List ℕ) → length (digit_characters digits) ≡ length digits
 text_length [] = refl
 text_length (digit ∷ digits) = ap suc (text_length digits)
 
@@ -80,7 +80,7 @@ values_length [] = refl
 values_length (character ∷ characters) = ap suc (values_length characters)
 
 -- numerals are the characters of their digits
-pub values_text : (characters : List ℕ) → are_numerals characters ≡ true → text (values characters) ≡ characters
+pub values_text : (characters : List ℕ) → are_numerals characters ≡ true → digit_characters (values characters) ≡ characters
 values_text [] all = refl
 values_text (character ∷ characters) all =
     let parts = both (is_numeral character) _ all in
@@ -88,7 +88,7 @@ values_text (character ∷ characters) all =
     let least = range.0 in
     let most = range.1 in
     let here : 48 + character % 16 ≡ character = omega arith in
-    ap (λ (n : ℕ). n ∷ text (values characters)) here ∙ ap (λ (ns : List ℕ). character ∷ ns) (values_text characters parts.1)
+    ap (λ (n : ℕ). n ∷ digit_characters (values characters)) here ∙ ap (λ (ns : List ℕ). character ∷ ns) (values_text characters parts.1)
 
 pub values_decimal : (characters : List ℕ) → are_numerals characters ≡ true → are_decimal (values characters) ≡ true
 values_decimal [] all = refl
@@ -146,16 +146,16 @@ four_back a b c d small_a small_b small_c small_d =
     rw (first, second, third, last) refl
 
 -- a length that was read is spelled again
-pub two_spelled : (characters : List ℕ) → length characters ≡ 2 → are_numerals characters ≡ true → text (decimal_digits 2 (number_of_digits (values characters))) ≡ characters
+pub two_spelled : (characters : List ℕ) → length characters ≡ 2 → are_numerals characters ≡ true → digit_characters (decimal_digits 2 (number_of_digits (values characters))) ≡ characters
 two_spelled [] size all = absurd (omega arith)
 two_spelled (a ∷ []) size all = absurd (omega arith)
 two_spelled (a ∷ b ∷ []) size all =
     let one = both (is_numeral a) _ all in
     let two = both (is_numeral b) _ one.1 in
-    ap text (two_back (a % 16) (b % 16) (one_digit a one.0) (one_digit b two.0)) ∙ values_text (a ∷ b ∷ []) all
+    ap digit_characters (two_back (a % 16) (b % 16) (one_digit a one.0) (one_digit b two.0)) ∙ values_text (a ∷ b ∷ []) all
 two_spelled (a ∷ b ∷ c ∷ rest) size all = absurd (omega arith)
 
-pub four_spelled : (characters : List ℕ) → length characters ≡ 4 → are_numerals characters ≡ true → text (decimal_digits 4 (number_of_digits (values characters))) ≡ characters
+pub four_spelled : (characters : List ℕ) → length characters ≡ 4 → are_numerals characters ≡ true → digit_characters (decimal_digits 4 (number_of_digits (values characters))) ≡ characters
 four_spelled [] size all = absurd (omega arith)
 four_spelled (a ∷ []) size all = absurd (omega arith)
 four_spelled (a ∷ b ∷ []) size all = absurd (omega arith)
@@ -165,7 +165,7 @@ four_spelled (a ∷ b ∷ c ∷ d ∷ []) size all =
     let two = both (is_numeral b) _ one.1 in
     let three = both (is_numeral c) _ two.1 in
     let four = both (is_numeral d) _ three.1 in
-    ap text (four_back (a % 16) (b % 16) (c % 16) (d % 16) (one_digit a one.0) (one_digit b two.0) (one_digit c three.0) (one_digit d four.0)) ∙ values_text (a ∷ b ∷ c ∷ d ∷ []) all
+    ap digit_characters (four_back (a % 16) (b % 16) (c % 16) (d % 16) (one_digit a one.0) (one_digit b two.0) (one_digit c three.0) (one_digit d four.0)) ∙ values_text (a ∷ b ∷ c ∷ d ∷ []) all
 four_spelled (a ∷ b ∷ c ∷ d ∷ e ∷ rest) size all = absurd (omega arith)
 
 -- bytes of two digits each
@@ -184,7 +184,7 @@ packed_nibbles (byte ∷ bytes) =
     let here : byte / 16 * 16 + byte % 16 ≡ byte = omega arith in
     ap (λ (n : ℕ). n ∷ packed (nibbles bytes)) here ∙ ap (λ (ns : List ℕ). byte ∷ ns) (packed_nibbles bytes)
 
-pub packed_text : (bytes : List ℕ) → are_digits bytes ≡ true → packed (values (text (nibbles bytes))) ≡ bytes
+pub packed_text : (bytes : List ℕ) → are_digits bytes ≡ true → packed (values (digit_characters (nibbles bytes))) ≡ bytes
 packed_text bytes all = ap packed (text_values (nibbles bytes) (nibbles_decimal bytes all)) ∙ packed_nibbles bytes
 
 small_digits : (digits : List ℕ) → are_decimal digits ≡ true → All (λ digit. digit < 16) digits
@@ -240,24 +240,24 @@ unfolding nibbles
 nibbles_joined [] back = refl
 nibbles_joined (byte ∷ front) back = ap (λ (ns : List ℕ). byte / 16 ∷ byte % 16 ∷ ns) (nibbles_joined front back)
 
-text_joined : (front back : List ℕ) → text (front ++ back) ≡ text front ++ text back
+text_joined : (front back : List ℕ) → digit_characters (front ++ back) ≡ digit_characters front ++ digit_characters back
 text_joined [] back = refl
 text_joined (digit ∷ front) back = ap (λ (ns : List ℕ). (48 + digit) ∷ ns) (text_joined front back)
 
-one_nibbles : (byte : ℕ) → text (nibbles (byte ∷ [])) ≡ (48 + byte / 16) ∷ (48 + byte % 16) ∷ []
+one_nibbles : (byte : ℕ) → digit_characters (nibbles (byte ∷ [])) ≡ (48 + byte / 16) ∷ (48 + byte % 16) ∷ []
 unfolding nibbles
 one_nibbles byte = refl
 
 pub packed_more :
     (out bytes : List ℕ) (k byte : ℕ) → k < length bytes → get_or bytes k 0 ≡ byte
-    → ((out ++ text (nibbles (take k bytes))) ++ (48 + byte / 16) ∷ []) ++ (48 + byte % 16) ∷ [] ≡ out ++ text (nibbles (take (k + 1) bytes))
+    → ((out ++ digit_characters (nibbles (take k bytes))) ++ (48 + byte / 16) ∷ []) ++ (48 + byte % 16) ∷ [] ≡ out ++ digit_characters (nibbles (take (k + 1) bytes))
 packed_more out bytes k byte within here =
     let more : take (k + 1) bytes ≡ take k bytes ++ byte ∷ [] = take_more bytes k 0 within ∙ ap (λ (b : ℕ). take k bytes ++ b ∷ []) here in
-    let digits : text (nibbles (take (k + 1) bytes)) ≡ text (nibbles (take k bytes)) ++ (48 + byte / 16) ∷ (48 + byte % 16) ∷ [] =
-    ap (λ (l : List ℕ). text (nibbles l)) more ∙ ap text (nibbles_joined (take k bytes) (byte ∷ [])) ∙ text_joined (nibbles (take k bytes)) (nibbles (byte ∷ []))
-    ∙ ap (λ (l : List ℕ). text (nibbles (take k bytes)) ++ l) (one_nibbles byte) in
+    let digits : digit_characters (nibbles (take (k + 1) bytes)) ≡ digit_characters (nibbles (take k bytes)) ++ (48 + byte / 16) ∷ (48 + byte % 16) ∷ [] =
+    ap (λ (l : List ℕ). digit_characters (nibbles l)) more ∙ ap digit_characters (nibbles_joined (take k bytes) (byte ∷ [])) ∙ text_joined (nibbles (take k bytes)) (nibbles (byte ∷ []))
+    ∙ ap (λ (l : List ℕ). digit_characters (nibbles (take k bytes)) ++ l) (one_nibbles byte) in
     rw digits (simp append_assoc)
 
-pub no_digits : (out : List ℕ) → out ≡ out ++ text (nibbles [])
+pub no_digits : (out : List ℕ) → out ≡ out ++ digit_characters (nibbles [])
 unfolding nibbles
 no_digits out = sym (append-nil out)

@@ -13,9 +13,9 @@ use Rattle.emv_dict.specs.Bcd.{number_of_digits}
 use Rattle.auth_message.specs.Spelling.{spelled}
 use Rattle.auth_message.proofs.Spelled.{placed, are_tags, read_fields}
 use Rattle.iso_message.specs.declared.fault.IsoFault.TheVariants.{Field, Bitmap, Rest}
-use Rattle.iso_message.specs.Left.{Left, only, part_from, part_at, digits_at, counted_at, bits_at, items_at, as_written, nothing_left}
+use Rattle.iso_message.specs.Left.{Left, only_if, part_from, part_at, digits_part_at, counted_at, bits_at, items_at, as_written, nothing_left}
 use Rattle.iso_message.specs.Pairs.{pairs}
-use Rattle.iso_message.specs.Text.{text, values, are_numerals, decimal_digits, counted}
+use Rattle.iso_message.specs.Text.{digit_characters, values, are_numerals, decimal_digits, with_length}
 use Rattle.iso_message.proofs.Numerals.{at_most, two_read, four_read, two_spelled, four_spelled, text_values, text_numerals, text_length, decimals, decimals_length}
 use Rattle.iso_message.proofs.Steps.{made_of, holds_only}
 
@@ -38,28 +38,28 @@ part_again start place front rest count size =
     rw (room, first, last) refl
 
 pub digits_again :
-    (field place : ℕ) (front rest : List ℕ) (count : ℕ) → length front ≡ count → are_numerals front ≡ true → digits_at field count (left place (front ++ rest)) ≡ Ok (front, left (place + count) rest)
-unfolding digits_at
+    (field place : ℕ) (front rest : List ℕ) (count : ℕ) → length front ≡ count → are_numerals front ≡ true → digits_part_at field count (left place (front ++ rest)) ≡ Ok (front, left (place + count) rest)
+unfolding digits_part_at
 digits_again field place front rest count size all = rw (part_again place place front rest count size, all) refl
 
 -- a content behind its length in these digits
 counted_by :
-    (field count place : ℕ) (digits content rest : List ℕ) → length (text digits) ≡ count → are_numerals (text digits) ≡ true → number_of_digits (values (text digits)) ≡ length content
-    → counted_at field count (left place ((text digits ++ content) ++ rest)) ≡ Ok (content, left ((place + count) + length content) rest)
+    (field count place : ℕ) (digits content rest : List ℕ) → length (digit_characters digits) ≡ count → are_numerals (digit_characters digits) ≡ true → number_of_digits (values (digit_characters digits)) ≡ length content
+    → counted_at field count (left place ((digit_characters digits ++ content) ++ rest)) ≡ Ok (content, left ((place + count) + length content) rest)
 unfolding counted_at
 counted_by field count place digits content rest size all number =
-    let parts : (text digits ++ content) ++ rest ≡ text digits ++ (content ++ rest) = append_assoc (text digits) content rest in
-    rw (parts, digits_again field place (text digits) (content ++ rest) count size all, number) (part_again place (place + count) content rest (length content) refl)
+    let parts : (digit_characters digits ++ content) ++ rest ≡ digit_characters digits ++ (content ++ rest) = append_assoc (digit_characters digits) content rest in
+    rw (parts, digits_again field place (digit_characters digits) (content ++ rest) count size all, number) (part_again place (place + count) content rest (length content) refl)
 
-pub two_counted : (field place : ℕ) (content rest : List ℕ) → length content < 100 → counted_at field 2 (left place (counted 2 content ++ rest)) ≡ Ok (content, left ((place + 2) + length content) rest)
-unfolding counted
+pub two_counted : (field place : ℕ) (content rest : List ℕ) → length content < 100 → counted_at field 2 (left place (with_length 2 content ++ rest)) ≡ Ok (content, left ((place + 2) + length content) rest)
+unfolding with_length
 two_counted field place content rest small =
     let digits = decimal_digits 2 (length content) in
     counted_by field 2 place digits content rest (text_length digits ∙ decimals_length 2 (length content)) (text_numerals digits (decimals 2 (length content)))
     (ap number_of_digits (text_values digits (decimals 2 (length content))) ∙ two_read (length content) small)
 
-pub four_counted : (field place : ℕ) (content rest : List ℕ) → length content < 10000 → counted_at field 4 (left place (counted 4 content ++ rest)) ≡ Ok (content, left ((place + 4) + length content) rest)
-unfolding counted
+pub four_counted : (field place : ℕ) (content rest : List ℕ) → length content < 10000 → counted_at field 4 (left place (with_length 4 content ++ rest)) ≡ Ok (content, left ((place + 4) + length content) rest)
+unfolding with_length
 four_counted field place content rest small =
     let digits = decimal_digits 4 (length content) in
     counted_by field 4 place digits content rest (text_length digits ∙ decimals_length 4 (length content)) (text_numerals digits (decimals 4 (length content)))
@@ -83,7 +83,7 @@ fields_of fields are =
 
 pub items_again :
     (place : ℕ) (fields : List (ℕ × List ℕ)) (rest : List ℕ) → are_tags fields ≡ true → length (spelled fields) < 10000
-    → items_at (left place (counted 4 (spelled fields) ++ rest)) ≡ Ok ((spelled fields, placed 0 fields), left ((place + 4) + length (spelled fields)) rest)
+    → items_at (left place (with_length 4 (spelled fields) ++ rest)) ≡ Ok ((spelled fields, placed 0 fields), left ((place + 4) + length (spelled fields)) rest)
 unfolding items_at
 items_again place fields rest are small =
     rw (four_counted 55 place (spelled fields) rest small, fields_of fields are, pairs_placed 0 fields, same_bytes (spelled fields)) refl
@@ -116,11 +116,11 @@ pub record AreDigitsAt (count : ℕ) (before : Left) (part : List ℕ) (after : 
   pub stands : IsPart count before part after
   pub numerals : are_numerals part ≡ true
 
-pub digits_spelled : (field count : ℕ) (before : Left) (part : List ℕ) (after : Left) → digits_at field count before ≡ Ok (part, after) → AreDigitsAt count before part after
-unfolding digits_at
+pub digits_spelled : (field count : ℕ) (before : Left) (part : List ℕ) (after : Left) → digits_part_at field count before ≡ Ok (part, after) → AreDigitsAt count before part after
+unfolding digits_part_at
 digits_spelled field count before part after is =
     let first = made_of (part_at count before) _ (part, after) is in
-    let second = made_of (only (are_numerals first.value.0) (Field field)) _ (part, after) first.behind in
+    let second = made_of (only_if (are_numerals first.value.0) (Field field)) _ (part, after) first.behind in
     let same : first.value ≡ (part, after) = cc in
     let right = holds_only (are_numerals first.value.0) (Field field) second.value second.made in
     record {
@@ -139,7 +139,7 @@ record HasSize (count : ℕ) (before : Left) (content : List ℕ) (after : Left)
 sized : (field count : ℕ) (before : Left) (content : List ℕ) (after : Left) → counted_at field count before ≡ Ok (content, after) → HasSize count before content after
 unfolding counted_at
 sized field count before content after is =
-    let first = made_of (digits_at field count before) _ (content, after) is in
+    let first = made_of (digits_part_at field count before) _ (content, after) is in
     let length_is = digits_spelled field count before first.value.0 first.value.1 first.made in
     let second = part_spelled before.place (number_of_digits (values first.value.0)) first.value.1 content after first.behind in
     record {
@@ -150,25 +150,25 @@ sized field count before content after is =
       front = length_is.stands.front ∙ ap (λ b. first.value.0 ++ b) second.front;
     }
 
-pub two_counted_spelled : (field : ℕ) (before : Left) (content : List ℕ) (after : Left) → counted_at field 2 before ≡ Ok (content, after) → before.bytes ≡ counted 2 content ++ after.bytes
-unfolding counted
+pub two_counted_spelled : (field : ℕ) (before : Left) (content : List ℕ) (after : Left) → counted_at field 2 before ≡ Ok (content, after) → before.bytes ≡ with_length 2 content ++ after.bytes
+unfolding with_length
 two_counted_spelled field before content after is =
     let has = sized field 2 before content after is in
-    let again : text (decimal_digits 2 (length content)) ≡ has.size = ap (λ n. text (decimal_digits 2 n)) (sym has.number) ∙ two_spelled has.size has.digits has.numerals in
-    has.front ∙ ap (λ b. b ++ (content ++ after.bytes)) (sym again) ∙ sym (append_assoc (text (decimal_digits 2 (length content))) content after.bytes)
+    let again : digit_characters (decimal_digits 2 (length content)) ≡ has.size = ap (λ n. digit_characters (decimal_digits 2 n)) (sym has.number) ∙ two_spelled has.size has.digits has.numerals in
+    has.front ∙ ap (λ b. b ++ (content ++ after.bytes)) (sym again) ∙ sym (append_assoc (digit_characters (decimal_digits 2 (length content))) content after.bytes)
 
-pub four_counted_spelled : (field : ℕ) (before : Left) (content : List ℕ) (after : Left) → counted_at field 4 before ≡ Ok (content, after) → before.bytes ≡ counted 4 content ++ after.bytes
-unfolding counted
+pub four_counted_spelled : (field : ℕ) (before : Left) (content : List ℕ) (after : Left) → counted_at field 4 before ≡ Ok (content, after) → before.bytes ≡ with_length 4 content ++ after.bytes
+unfolding with_length
 four_counted_spelled field before content after is =
     let has = sized field 4 before content after is in
-    let again : text (decimal_digits 4 (length content)) ≡ has.size = ap (λ n. text (decimal_digits 4 n)) (sym has.number) ∙ four_spelled has.size has.digits has.numerals in
-    has.front ∙ ap (λ b. b ++ (content ++ after.bytes)) (sym again) ∙ sym (append_assoc (text (decimal_digits 4 (length content))) content after.bytes)
+    let again : digit_characters (decimal_digits 4 (length content)) ≡ has.size = ap (λ n. digit_characters (decimal_digits 4 n)) (sym has.number) ∙ four_spelled has.size has.digits has.numerals in
+    has.front ∙ ap (λ b. b ++ (content ++ after.bytes)) (sym again) ∙ sym (append_assoc (digit_characters (decimal_digits 4 (length content))) content after.bytes)
 
 pub bits_spelled : (bits : List ℕ) (before after : Left) → bits_at bits before ≡ Ok after → before.bytes ≡ bits ++ after.bytes
 unfolding bits_at
 bits_spelled bits before after is =
     let first = made_of (part_at 8 before) _ after is in
-    let second = made_of (only (bytes_eq first.value.0 bits) Bitmap) _ after first.behind in
+    let second = made_of (only_if (bytes_eq first.value.0 bits) Bitmap) _ after first.behind in
     let last : first.value.1 ≡ after = cc in
     let same = equal_bytes first.value.0 bits (holds_only (bytes_eq first.value.0 bits) Bitmap second.value second.made) in
     let part = part_spelled before.place 8 before first.value.0 first.value.1 first.made in
@@ -176,7 +176,7 @@ bits_spelled bits before after is =
 
 -- the items of field 55 are its content
 pub record HasItems (before : Left) (content : List ℕ) (items : List ItemData) (after : Left) : Type 0 where
-  pub front : before.bytes ≡ counted 4 content ++ after.bytes
+  pub front : before.bytes ≡ with_length 4 content ++ after.bytes
   pub listed : items_of content ≡ Ok items
   pub exact : content ≡ spelled (pairs items)
 

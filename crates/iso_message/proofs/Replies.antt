@@ -10,22 +10,22 @@ use Rattle.ber_tlv.specs.Written.{written}
 use Rattle.ber_tlv.proofs.ReadAgain.{both}
 use Rattle.auth_message.specs.declared.fault.MessageFault.{MessageFault}
 use Rattle.auth_message.specs.Field.{some_value, is_between}
-use Rattle.auth_message.specs.Fields.{ended}
-use Rattle.auth_message.specs.Reply.{ReplyData, auth_at, names_script, is_template, templates, behind_templates, bytes_of, are_few, scripts_at, end_behind}
+use Rattle.auth_message.specs.Fields.{no_item_left}
+use Rattle.auth_message.specs.Reply.{ReplyData, auth_at, names_script, is_template, leading_templates, behind_templates, bytes_of_items, are_few_templates, scripts_in_items, end_behind}
 use Rattle.auth_message.specs.Spelling.{optional, spelled}
 use Rattle.auth_message.specs.Whole.{AreSpelledScripts}
 use Rattle.auth_message.proofs.Spelled.{placed, are_tags, optional_front, spelled_append, take_whole}
 use Rattle.auth_message.proofs.Templates.{are_templates, templates_tags, ends_placed}
 use Rattle.iso_message.specs.declared.fault.IsoFault.{IsoFault}
 use Rattle.iso_message.specs.declared.kind.CallKind.{CallKind}
-use Rattle.iso_message.specs.Items.{reply_items, reply_in}
+use Rattle.iso_message.specs.Items.{reply_items, reply_with_code}
 use Rattle.iso_message.specs.Layout.{reply_type, bitmap, reply_numbers}
 use Rattle.iso_message.specs.Left.{Left, part_at, bits_at, items_at, in_55, nothing_left}
 use Rattle.iso_message.specs.Pairs.{pairs}
-use Rattle.iso_message.specs.Reading.{kind_at, whole}
-use Rattle.iso_message.specs.Reply.{reply_at, reply_from, reply_of}
-use Rattle.iso_message.specs.Spelling.{reply_bytes}
-use Rattle.iso_message.specs.Text.{counted}
+use Rattle.iso_message.specs.Reading.{call_kind_at, unread_message}
+use Rattle.iso_message.specs.Reply.{iso_reply_at, reply_from, iso_reply_of}
+use Rattle.iso_message.specs.Spelling.{iso_reply_bytes}
+use Rattle.iso_message.specs.Text.{with_length}
 use Rattle.iso_message.proofs.Calls.{reply_kind_again, kind_spelled}
 use Rattle.iso_message.proofs.Fronts.{bitmap_size}
 use Rattle.iso_message.proofs.ItemsSpelled.{some_by, took, took_none, took_some, none_taken, not_taken, none_left}
@@ -64,7 +64,7 @@ auth_again place None fields is all = no_auth place fields all ∙ ap (λ n. Ok 
 auth_again place (Some value) fields is all = some_auth place value fields is ∙ ap (λ n. Ok (Some value, placed n fields)) (omega (arith, ap length (append-nil (written 0x91 value))))
 
 -- templates are scripts, and their bytes are what they are spelled as
-templates_placed : (place : ℕ) (fields : List (ℕ × List ℕ)) → are_templates fields ≡ true → (templates (placed place fields) ≡ placed place fields) × (behind_templates (placed place fields) ≡ [])
+templates_placed : (place : ℕ) (fields : List (ℕ × List ℕ)) → are_templates fields ≡ true → (leading_templates (placed place fields) ≡ placed place fields) × (behind_templates (placed place fields) ≡ [])
 templates_placed place [] all = (refl, refl)
 templates_placed place (field ∷ fields) all =
     let facts = both (names_script field.0) _ all in
@@ -80,7 +80,7 @@ range_behind front rest end same =
     let size : end - length front ≡ length rest = omega arith in
     ap (λ n. take n (drop (length front) (front ++ rest))) size ∙ ap (take (length rest)) (drop-append_seam front rest) ∙ take_whole rest
 
-scripts_bytes : (front : List ℕ) (fields : List (ℕ × List ℕ)) → are_tags fields ≡ true → bytes_of (front ++ spelled fields) (placed (length front) fields) ≡ spelled fields
+scripts_bytes : (front : List ℕ) (fields : List (ℕ × List ℕ)) → are_tags fields ≡ true → bytes_of_items (front ++ spelled fields) (placed (length front) fields) ≡ spelled fields
 scripts_bytes front [] are = refl
 scripts_bytes front (field ∷ fields) are =
     let all = field ∷ fields in
@@ -92,8 +92,8 @@ scripts_bytes front (field ∷ fields) are =
 
 scripts_again :
     (front : List ℕ) (fields : List (ℕ × List ℕ)) → are_templates fields ≡ true → length fields ≤ 8 → length (spelled fields) ≤ 1024
-    → scripts_at (front ++ spelled fields) (placed (length front) fields) ≡ Ok (spelled fields, [])
-unfolding scripts_at
+    → scripts_in_items (front ++ spelled fields) (placed (length front) fields) ≡ Ok (spelled fields, [])
+unfolding scripts_in_items
 scripts_again front fields all few short =
     let moved = templates_placed (length front) fields all in
     let bytes = scripts_bytes front fields (templates_tags fields all) in
@@ -110,34 +110,34 @@ all_tags auth fields all = optional_front 0x91 auth fields refl (templates_tags 
 
 reply_in_again :
     (code : List ℕ) (auth : Option (List ℕ)) (fields : List (ℕ × List ℕ)) → IfSome auth IsAuth → are_templates fields ≡ true → length fields ≤ 8 → length (spelled fields) ≤ 1024
-    → reply_in code (spelled (all_items auth fields)) (placed 0 (all_items auth fields)) ≡ Ok (record { code = code; auth = auth; scripts = spelled fields })
-unfolding reply_in
+    → reply_with_code code (spelled (all_items auth fields)) (placed 0 (all_items auth fields)) ≡ Ok (record { code = code; auth = auth; scripts = spelled fields })
+unfolding reply_with_code
 reply_in_again code auth fields is all few short =
     let front = spelled (reply_items auth) in
     let start : behind_auth 0 auth ≡ length front = omega arith in
     let first = auth_again 0 auth fields is all ∙ ap (λ n. Ok (auth, placed n fields)) start in
-    let second = ap (λ b. scripts_at b (placed (length front) fields)) (spelled_append (reply_items auth) fields) ∙ scripts_again front fields all few short in
+    let second = ap (λ b. scripts_in_items b (placed (length front) fields)) (spelled_append (reply_items auth) fields) ∙ scripts_again front fields all few short in
     rw (first, second) refl
 
 -- what a reply is behind its type
 abbrev pub reply_rest : ReplyData → List ℕ
-reply_rest reply = bitmap reply_numbers ++ (reply.code ++ (counted 4 (spelled (reply_items reply.auth) ++ reply.scripts) ++ []))
+reply_rest reply = bitmap reply_numbers ++ (reply.code ++ (with_length 4 (spelled (reply_items reply.auth) ++ reply.scripts) ++ []))
 
-pub reply_split : (of : CallKind) (reply : ReplyData) → reply_bytes of reply ≡ reply_type of ++ reply_rest reply
-unfolding reply_bytes
+pub reply_split : (of : CallKind) (reply : ReplyData) → iso_reply_bytes of reply ≡ reply_type of ++ reply_rest reply
+unfolding iso_reply_bytes
 reply_split of reply = refl
 
 reply_read :
     (place : ℕ) (reply : ReplyData) → length reply.code ≡ 2 → IfSome reply.auth IsAuth → AreSpelledScripts reply.scripts → length (spelled (reply_items reply.auth) ++ reply.scripts) < 10000
-    → reply_at (left place (reply_rest reply)) ≡ Ok reply
-unfolding reply_at
+    → iso_reply_at (left place (reply_rest reply)) ≡ Ok reply
+unfolding iso_reply_at
 reply_read place reply two is are small =
     let fields = are.fields in
     let content : spelled (reply_items reply.auth) ++ reply.scripts ≡ spelled (all_items reply.auth fields) =
     ap (λ b. spelled (reply_items reply.auth) ++ b) are.exact ∙ sym (spelled_append (reply_items reply.auth) fields) in
-    let last : List ℕ = counted 4 (spelled (all_items reply.auth fields)) ++ [] in
+    let last : List ℕ = with_length 4 (spelled (all_items reply.auth fields)) ++ [] in
     let found = reply_in_again reply.code reply.auth fields is are.templates are.few (omega (arith, are.short, ap length are.exact)) in
-    ap (λ (c : List ℕ). reply_at (left place (bitmap reply_numbers ++ (reply.code ++ (counted 4 c ++ []))))) content
+    ap (λ (c : List ℕ). iso_reply_at (left place (bitmap reply_numbers ++ (reply.code ++ (with_length 4 c ++ []))))) content
     ∙ rw (
       bits_again place (bitmap reply_numbers) (reply.code ++ last) (bitmap_size reply_numbers),
       part_again (place + 8) (place + 8) reply.code last 2 two,
@@ -147,10 +147,10 @@ reply_read place reply two is are small =
 
 pub reply_again :
     (of : CallKind) (reply : ReplyData) → length reply.code ≡ 2 → IfSome reply.auth IsAuth → AreSpelledScripts reply.scripts → length (spelled (reply_items reply.auth) ++ reply.scripts) < 10000
-    → reply_of (reply_bytes of reply) ≡ Ok (of, reply)
+    → iso_reply_of (iso_reply_bytes of reply) ≡ Ok (of, reply)
 unfolding reply_from
 reply_again of reply two is are small =
-    ap reply_of (reply_split of reply) ∙ rw (reply_kind_again of (reply_rest reply), reply_read 4 reply two is are small) refl
+    ap iso_reply_of (reply_split of reply) ∙ rw (reply_kind_again of (reply_rest reply), reply_read 4 reply two is are small) refl
 
 -- 91 was taken, or none
 auth_first :
@@ -204,23 +204,23 @@ sized_auth (Some value) is =
 
 -- all that is left is templates
 templates_by :
-    (item : ItemData) (items : List ItemData) (is : Bool) → is_template item ≡ is → (pairs (behind_templates items) ≡ [] → (templates items ≡ items) × (are_templates (pairs items) ≡ true))
-    → pairs (behind_templates (item ∷ items)) ≡ [] → (templates (item ∷ items) ≡ item ∷ items) × (are_templates (pairs (item ∷ items)) ≡ true)
+    (item : ItemData) (items : List ItemData) (is : Bool) → is_template item ≡ is → (pairs (behind_templates items) ≡ [] → (leading_templates items ≡ items) × (are_templates (pairs items) ≡ true))
+    → pairs (behind_templates (item ∷ items)) ≡ [] → (leading_templates (item ∷ items) ≡ item ∷ items) × (are_templates (pairs (item ∷ items)) ≡ true)
 templates_by item items true is others none =
     let here = others (rw is at none) in
     (rw is (ap (λ (l : List ItemData). item ∷ l) here.0), rw is here.1)
 templates_by item items false is others none = let here = rw is at none in cc
 
-all_templates : (items : List ItemData) → pairs (behind_templates items) ≡ [] → (templates items ≡ items) × (are_templates (pairs items) ≡ true)
+all_templates : (items : List ItemData) → pairs (behind_templates items) ≡ [] → (leading_templates items ≡ items) × (are_templates (pairs items) ≡ true)
 all_templates [] none = (refl, refl)
 all_templates (item ∷ items) none = templates_by item items _ refl (all_templates items) none
 
-scripts_by : (bytes : List ℕ) (items : List ItemData) (scripts : List ℕ) (rest : List ItemData) (few : Bool) → are_few (templates items) (bytes_of bytes (templates items)) ≡ few → scripts_at bytes items ≡ Ok (scripts, rest)
-    → (bytes_of bytes (templates items) ≡ scripts) × (behind_templates items ≡ rest) × (few ≡ true)
-unfolding scripts_at
+scripts_by : (bytes : List ℕ) (items : List ItemData) (scripts : List ℕ) (rest : List ItemData) (few : Bool) → are_few_templates (leading_templates items) (bytes_of_items bytes (leading_templates items)) ≡ few → scripts_in_items bytes items ≡ Ok (scripts, rest)
+    → (bytes_of_items bytes (leading_templates items) ≡ scripts) × (behind_templates items ≡ rest) × (few ≡ true)
+unfolding scripts_in_items
 scripts_by bytes items scripts rest true few is =
     let here = rw few at is in
-    let same : (bytes_of bytes (templates items), behind_templates items) ≡ (scripts, rest) = cc in
+    let same : (bytes_of_items bytes (leading_templates items), behind_templates items) ≡ (scripts, rest) = cc in
     (ap (λ (p : List ℕ × List ItemData). p.0) same, ap (λ (p : List ℕ × List ItemData). p.1) same, refl)
 scripts_by bytes items scripts rest false few is = let here = rw few at is in cc
 
@@ -242,7 +242,7 @@ same_rest auth one other is = ap (λ (p : Option (List ℕ) × List ItemData). p
 
 reply_parts :
     (content : List ℕ) (items : List ItemData) (auth : Option (List ℕ)) (rest : List ItemData) (scripts : List ℕ) (last : List ItemData) (code : List ℕ) → items_of content ≡ Ok items → content ≡ spelled (pairs items)
-    → auth_at items ≡ Ok (auth, rest) → scripts_at content rest ≡ Ok (scripts, last) → pairs last ≡ [] → IsReplyRead items content (record { code = code; auth = auth; scripts = scripts })
+    → auth_at items ≡ Ok (auth, rest) → scripts_in_items content rest ≡ Ok (scripts, last) → pairs last ≡ [] → IsReplyRead items content (record { code = code; auth = auth; scripts = scripts })
 reply_parts content items auth rest scripts last code listed exact first second none =
     let taken = auth_taken items auth rest first in
     let found = scripts_by content rest scripts last _ refl second in
@@ -256,11 +256,11 @@ reply_parts content items auth rest scripts last code listed exact first second 
     let start : behind_auth 0 auth ≡ length (spelled (reply_items auth)) = omega arith in
     let rest_is : rest ≡ placed (length (spelled (reply_items auth))) fields =
     same_rest auth rest (placed (length (spelled (reply_items auth))) fields) (sym first ∙ ap auth_at items_are ∙ auth_again 0 auth fields is_auth all.1 ∙ ap (λ n. Ok (auth, placed n fields)) start) in
-    let bytes : bytes_of content rest ≡ spelled fields =
-    ap (bytes_of content) rest_is ∙ ap (λ b. bytes_of b (placed (length (spelled (reply_items auth))) fields)) joined ∙ scripts_bytes (spelled (reply_items auth)) fields (templates_tags fields all.1) in
-    let scripts_are : scripts ≡ spelled fields = sym found.0 ∙ ap (bytes_of content) all.0 ∙ bytes in
-    let few = both (nat_le (length (templates rest)) 8) _ found.2 in
-    let few_items : length rest ≤ 8 = subst (λ (l : List ItemData). length l ≤ 8) all.0 (at_most (length (templates rest)) 8 few.0) in
+    let bytes : bytes_of_items content rest ≡ spelled fields =
+    ap (bytes_of_items content) rest_is ∙ ap (λ b. bytes_of_items b (placed (length (spelled (reply_items auth))) fields)) joined ∙ scripts_bytes (spelled (reply_items auth)) fields (templates_tags fields all.1) in
+    let scripts_are : scripts ≡ spelled fields = sym found.0 ∙ ap (bytes_of_items content) all.0 ∙ bytes in
+    let few = both (nat_le (length (leading_templates rest)) 8) _ found.2 in
+    let few_items : length rest ≤ 8 = subst (λ (l : List ItemData). length l ≤ 8) all.0 (at_most (length (leading_templates rest)) 8 few.0) in
     record {
       exact = joined ∙ ap (λ b. spelled (reply_items auth) ++ b) (sym scripts_are);
       auth = is_auth;
@@ -268,17 +268,17 @@ reply_parts content items auth rest scripts last code listed exact first second 
         fields = fields;
         templates = all.1;
         few = omega (arith, pairs_count rest);
-        short = subst (λ (b : List ℕ). length b ≤ 1024) found.0 (at_most (length (bytes_of content (templates rest))) 1024 few.1);
+        short = subst (λ (b : List ℕ). length b ≤ 1024) found.0 (at_most (length (bytes_of_items content (leading_templates rest))) 1024 few.1);
         exact = scripts_are;
       };
     }
 
-reply_taken : (code content : List ℕ) (items : List ItemData) (reply : ReplyData) → items_of content ≡ Ok items → content ≡ spelled (pairs items) → reply_in code content items ≡ Ok reply → (IsReplyRead items content reply) × (reply.code ≡ code)
-unfolding reply_in
+reply_taken : (code content : List ℕ) (items : List ItemData) (reply : ReplyData) → items_of content ≡ Ok items → content ≡ spelled (pairs items) → reply_with_code code content items ≡ Ok reply → (IsReplyRead items content reply) × (reply.code ≡ code)
+unfolding reply_with_code
 reply_taken code content items reply listed exact is =
     let first = read_of (auth_at items) _ reply is in
-    let second = read_of (scripts_at content first.value.1) _ reply first.behind in
-    let third = read_of (ended second.value.1) _ reply second.behind in
+    let second = read_of (scripts_in_items content first.value.1) _ reply first.behind in
+    let third = read_of (no_item_left second.value.1) _ reply second.behind in
     let read : ReplyData = record { code = code; auth = first.value.0; scripts = second.value.0 } in
     let same : read ≡ reply = cc in
     let parts = reply_parts content items first.value.0 first.value.1 second.value.0 second.value.1 code listed exact first.made second.made (none_left second.value.1 third.value third.made) in
@@ -286,41 +286,41 @@ reply_taken code content items reply listed exact is =
 
 -- a reply that was read has one spelling, and may be written
 pub record IsWrittenReply (bytes : List ℕ) (of : CallKind) (reply : ReplyData) : Type 0 where
-  pub exact : bytes ≡ reply_bytes of reply
+  pub exact : bytes ≡ iso_reply_bytes of reply
   pub auth : IfSome reply.auth IsAuth
   pub scripts : AreSpelledScripts reply.scripts
 
-reply_exact : (before : Left) (reply : ReplyData) → reply_at before ≡ Ok reply → (before.bytes ≡ reply_rest reply) × IfSome reply.auth IsAuth × AreSpelledScripts reply.scripts
-unfolding reply_at
+reply_exact : (before : Left) (reply : ReplyData) → iso_reply_at before ≡ Ok reply → (before.bytes ≡ reply_rest reply) × IfSome reply.auth IsAuth × AreSpelledScripts reply.scripts
+unfolding iso_reply_at
 reply_exact before reply is =
     let first = made_of (bits_at (bitmap reply_numbers) before) _ reply is in
     let second = made_of (part_at 2 first.value) _ reply first.behind in
     let third = made_of (items_at second.value.1) _ reply second.behind in
-    let fourth = made_of (in_55 (reply_in second.value.0 third.value.0.0 third.value.0.1)) _ reply third.behind in
+    let fourth = made_of (in_55 (reply_with_code second.value.0 third.value.0.0 third.value.0.1)) _ reply third.behind in
     let fifth = made_of (nothing_left third.value.1) _ reply fourth.behind in
     let last : fourth.value ≡ reply = cc in
     let bits = bits_spelled (bitmap reply_numbers) before first.value first.made in
     let code = part_spelled first.value.place 2 first.value second.value.0 second.value.1 second.made in
     let items = items_spelled second.value.1 third.value.0.0 third.value.0.1 third.value.1 third.made in
-    let found = reply_taken second.value.0 third.value.0.0 third.value.0.1 reply items.listed items.exact (from_55 (reply_in second.value.0 third.value.0.0 third.value.0.1) fourth.value fourth.made ∙ ap Ok last) in
-    let behind : second.value.1.bytes ≡ counted 4 (spelled (reply_items reply.auth) ++ reply.scripts) ++ [] =
+    let found = reply_taken second.value.0 third.value.0.0 third.value.0.1 reply items.listed items.exact (from_55 (reply_with_code second.value.0 third.value.0.0 third.value.0.1) fourth.value fourth.made ∙ ap Ok last) in
+    let behind : second.value.1.bytes ≡ with_length 4 (spelled (reply_items reply.auth) ++ reply.scripts) ++ [] =
     items.front
-    ∙ ap (λ (c : List ℕ). counted 4 c ++ third.value.1.bytes) found.0.exact
-    ∙ ap (λ (b : List ℕ). counted 4 (spelled (reply_items reply.auth) ++ reply.scripts) ++ b) (nothing_spelled third.value.1 fifth.value fifth.made) in (
-      bits ∙ ap (λ (b : List ℕ). bitmap reply_numbers ++ b) (code.front ∙ ap (λ (b : List ℕ). second.value.0 ++ b) behind ∙ ap (λ (c : List ℕ). c ++ (counted 4 (spelled (reply_items reply.auth) ++ reply.scripts) ++ [])) (sym found.1)),
+    ∙ ap (λ (c : List ℕ). with_length 4 c ++ third.value.1.bytes) found.0.exact
+    ∙ ap (λ (b : List ℕ). with_length 4 (spelled (reply_items reply.auth) ++ reply.scripts) ++ b) (nothing_spelled third.value.1 fifth.value fifth.made) in (
+      bits ∙ ap (λ (b : List ℕ). bitmap reply_numbers ++ b) (code.front ∙ ap (λ (b : List ℕ). second.value.0 ++ b) behind ∙ ap (λ (c : List ℕ). c ++ (with_length 4 (spelled (reply_items reply.auth) ++ reply.scripts) ++ [])) (sym found.1)),
       found.0.auth,
       found.0.scripts,
     )
 
-pub reply_spelled : (bytes : List ℕ) (of : CallKind) (reply : ReplyData) → reply_of bytes ≡ Ok (of, reply) → IsWrittenReply bytes of reply
+pub reply_spelled : (bytes : List ℕ) (of : CallKind) (reply : ReplyData) → iso_reply_of bytes ≡ Ok (of, reply) → IsWrittenReply bytes of reply
 unfolding reply_from
 reply_spelled bytes of reply is =
-    let first = made_of (kind_at reply_type (whole bytes)) _ (of, reply) is in
-    let second = made_of (reply_at first.value.1) _ (of, reply) first.behind in
+    let first = made_of (call_kind_at reply_type (unread_message bytes)) _ (of, reply) is in
+    let second = made_of (iso_reply_at first.value.1) _ (of, reply) first.behind in
     let same : (first.value.0, second.value) ≡ (of, reply) = cc in
     let of_is : first.value.0 ≡ of = ap (λ (p : CallKind × ReplyData). p.0) same in
     let reply_is : second.value ≡ reply = ap (λ (p : CallKind × ReplyData). p.1) same in
-    let type_is = kind_spelled reply_type (whole bytes) first.value.0 first.value.1 first.made in
+    let type_is = kind_spelled reply_type (unread_message bytes) first.value.0 first.value.1 first.made in
     let found = reply_exact first.value.1 reply (second.made ∙ ap Ok reply_is) in
     record {
       exact = type_is ∙ ap (λ b. reply_type first.value.0 ++ b) found.0 ∙ ap (λ (k : CallKind). reply_type k ++ reply_rest reply) of_is ∙ sym (reply_split of reply);
@@ -330,9 +330,9 @@ reply_spelled bytes of reply is =
 
 -- what a reader says of the reply that it gives
 abbrev pub Reads : List ℕ → Result (CallKind × ReplyData) IsoFault → Type 0
-Reads bytes result = MatchResult result (λ found. reply_of bytes ≡ Ok (found.0, found.1)) (λ fault. reply_of bytes ≡ Err fault)
+Reads bytes result = MatchResult result (λ found. iso_reply_of bytes ≡ Ok (found.0, found.1)) (λ fault. iso_reply_of bytes ≡ Err fault)
 
-pub read_exact : (bytes : List ℕ) (result : Result (CallKind × ReplyData) IsoFault) → Reads bytes result → IfOk result (λ found. bytes ≡ reply_bytes found.0 found.1)
+pub read_exact : (bytes : List ℕ) (result : Result (CallKind × ReplyData) IsoFault) → Reads bytes result → IfOk result (λ found. bytes ≡ iso_reply_bytes found.0 found.1)
 read_exact bytes (Ok found) is = (reply_spelled bytes found.0 found.1 is).exact
 read_exact bytes (Err fault) is = tt
 
@@ -346,8 +346,8 @@ read_scripts bytes (Err fault) is = tt
 
 -- two replies that are read back have different bytes
 pub apart :
-    (one other : CallKind) (first second : ReplyData) → reply_of (reply_bytes one first) ≡ Ok (one, first) → reply_of (reply_bytes other second) ≡ Ok (other, second) → reply_bytes one first ≡ reply_bytes other second
+    (one other : CallKind) (first second : ReplyData) → iso_reply_of (iso_reply_bytes one first) ≡ Ok (one, first) → iso_reply_of (iso_reply_bytes other second) ≡ Ok (other, second) → iso_reply_bytes one first ≡ iso_reply_bytes other second
     → (one ≡ other) × (first ≡ second)
 apart one other first second read again same =
-    let both_are : (one, first) ≡ (other, second) = same_made (one, first) (other, second) (sym read ∙ ap reply_of same ∙ again) in
+    let both_are : (one, first) ≡ (other, second) = same_made (one, first) (other, second) (sym read ∙ ap iso_reply_of same ∙ again) in
     (ap (λ (p : CallKind × ReplyData). p.0) both_are, ap (λ (p : CallKind × ReplyData). p.1) both_are)

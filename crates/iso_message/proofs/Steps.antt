@@ -3,7 +3,7 @@ use Rattle.std.proofs.Common.{◌≡◌, Bool, true, false, refl, Result, Ok, Er
 use Rattle.auth_message.specs.declared.fault.MessageFault.{MessageFault}
 use Rattle.auth_message.specs.Fields as tlv
 use Rattle.iso_message.specs.declared.fault.IsoFault.{IsoFault}
-use Rattle.iso_message.specs.Left.{◌>>=◌, only, in_55}
+use Rattle.iso_message.specs.Left.{◌>>=◌, only_if, in_55}
 
 -- a step that was made, and the one behind it
 pub record Made {A B : Type 0} (first : Result A IsoFault) (next : A → Result B IsoFault) (last : B) : Type 0 where
@@ -15,7 +15,7 @@ pub made_of : {A B : Type 0} (first : Result A IsoFault) (next : A → Result B 
 made_of (Ok value) next last is = record { value = value; made = refl; behind = is }
 made_of (Err fault) next last is = cc
 
-pub holds_only : (right : Bool) (fault : IsoFault) (u : Unit {0}) → only right fault ≡ Ok u → right ≡ true
+pub holds_only : (right : Bool) (fault : IsoFault) (u : Unit {0}) → only_if right fault ≡ Ok u → right ≡ true
 holds_only true fault u is = refl
 holds_only false fault u is = cc
 

@@ -8,13 +8,13 @@ use Rattle.auth_message.specs.Reply as tlv
 use Rattle.auth_message.specs.Reply.{ReplyData}
 use Rattle.iso_message.specs.declared.kind.CallKind.{CallKind}
 use Rattle.iso_message.specs.declared.kind.CallKind.TheVariants as kind
-use Rattle.iso_message.specs.Spelling.{call_bytes, reply_bytes}
+use Rattle.iso_message.specs.Spelling.{call_bytes, iso_reply_bytes}
 
 -- the kind of a call
-abbrev pub kind_of : Incoming → CallKind
-kind_of (Request f) = kind.Request
-kind_of (Present f) = kind.Presentment
-kind_of (Reverse f) = kind.Reversal
+abbrev pub call_kind_of : Incoming → CallKind
+call_kind_of (Request f) = kind.Request
+call_kind_of (Present f) = kind.Presentment
+call_kind_of (Reverse f) = kind.Reversal
 
 -- the spelling of the call that a message is; none of bytes that are no message
 abbrev pub spelled_call : Result Incoming MessageFault → List ℕ
@@ -26,7 +26,7 @@ iso_call message = spelled_call (message_of message)
 
 -- the spelling of the reply to a call
 abbrev pub spelled_reply : Result Incoming MessageFault → Result ReplyData MessageFault → List ℕ
-spelled_reply (Ok call) (Ok reply) = reply_bytes (kind_of call) reply
+spelled_reply (Ok call) (Ok reply) = iso_reply_bytes (call_kind_of call) reply
 spelled_reply (Ok call) (Err fault) = []
 spelled_reply (Err fault) reply = []
 

@@ -10,29 +10,29 @@ use Rattle.iso_message.specs.declared.front.RequestFront.{RequestFront}
 use Rattle.iso_message.specs.declared.front.PresentFront.{PresentFront}
 use Rattle.iso_message.specs.declared.front.ReversalFront.{ReversalFront}
 use Rattle.iso_message.specs.Layout.{bitmap, request_numbers, present_numbers, reversal_numbers}
-use Rattle.iso_message.specs.Left.{Left, ◌>>=◌, only, part_at, digits_at, counted_at, bits_at}
-use Rattle.iso_message.specs.Text.{values, are_numerals, zeros, counter}
+use Rattle.iso_message.specs.Left.{Left, ◌>>=◌, only_if, part_at, digits_part_at, counted_at, bits_at}
+use Rattle.iso_message.specs.Text.{values, are_numerals, zeros, counter_digits}
 
 -- 2, the account number: its digits, of which there are 13 to 19
-unfoldable pub account_at : Left → Result (List ℕ × Left) IsoFault
-account_at left = do
+unfoldable pub account_field_at : Left → Result (List ℕ × Left) IsoFault
+account_field_at left = do
   characters ← counted_at 2 2 left
-  right ← only (are_numerals characters.0) (Field 2)
-  sized ← only (is_pan_length (length characters.0)) (Field 2)
+  right ← only_if (are_numerals characters.0) (Field 2)
+  sized ← only_if (is_pan_length (length characters.0)) (Field 2)
   Ok (values characters.0, characters.1)
 
 -- 3, the processing code: 9C in two digits, and four zeros
 unfoldable pub processing_at : Left → Result (List ℕ × Left) IsoFault
 processing_at left = do
-  characters ← digits_at 3 6 left
-  right ← only (bytes_eq (drop 2 characters.0) (zeros 4)) (Field 3)
+  characters ← digits_part_at 3 6 left
+  right ← only_if (bytes_eq (drop 2 characters.0) (zeros 4)) (Field 3)
   Ok (packed (values (take 2 characters.0)), characters.1)
 
 -- 4, 11 and 37: the amount, and the two numbers that the card's counter gives
 unfoldable pub numbers_at : Left → Result (Numbers × Left) IsoFault
 numbers_at left = do
-  amount ← digits_at 4 12 left
-  audit ← digits_at 11 6 amount.1
+  amount ← digits_part_at 4 12 left
+  audit ← digits_part_at 11 6 amount.1
   reference ← part_at 12 audit.1
   Ok (record { t9f02 = packed (values amount.0); audit = audit.0; reference = reference.0 }, reference.1)
 
@@ -40,7 +40,7 @@ numbers_at left = do
 unfoldable pub acceptor_at : Left → Result (Acceptor × Left) IsoFault
 acceptor_at left = do
   terminal ← part_at 8 left
-  currency ← digits_at 49 3 terminal.1
+  currency ← digits_part_at 49 3 terminal.1
   Ok (record { t9f1c = terminal.0; t5f2a = packed (0 ∷ values currency.0) }, currency.1)
 
 -- whether the bitmap names the block of a PIN
@@ -66,7 +66,7 @@ pin_at false left = Ok (None, left)
 unfoldable pub request_front_at : Left → Result (RequestFront × Left) IsoFault
 request_front_at left = do
   named ← request_bitmap_at left
-  pan ← account_at named.1
+  pan ← account_field_at named.1
   t9c ← processing_at pan.1
   numbers ← numbers_at t9c.1
   acceptor ← acceptor_at numbers.1
@@ -76,7 +76,7 @@ request_front_at left = do
 unfoldable pub present_front_at : Left → Result (PresentFront × Left) IsoFault
 present_front_at left = do
   bits ← bits_at (bitmap present_numbers) left
-  pan ← account_at bits
+  pan ← account_field_at bits
   t9c ← processing_at pan.1
   numbers ← numbers_at t9c.1
   code ← part_at 2 numbers.1
@@ -86,7 +86,7 @@ present_front_at left = do
 unfoldable pub reversal_front_at : Left → Result (ReversalFront × Left) IsoFault
 reversal_front_at left = do
   bits ← bits_at (bitmap reversal_numbers) left
-  pan ← account_at bits
+  pan ← account_field_at bits
   numbers ← numbers_at pan.1
   code ← part_at 2 numbers.1
   acceptor ← acceptor_at code.1
@@ -95,5 +95,5 @@ reversal_front_at left = do
 -- 11 and 37 are those of the counter
 unfoldable pub tied : Numbers → List ℕ → Result (Unit {0}) IsoFault
 tied numbers t9f36 = do
-  audit ← only (bytes_eq numbers.audit (counter t9f36)) (Field 11)
-  only (bytes_eq numbers.reference (zeros 6 ++ counter t9f36)) (Field 37)
+  audit ← only_if (bytes_eq numbers.audit (counter_digits t9f36)) (Field 11)
+  only_if (bytes_eq numbers.reference (zeros 6 ++ counter_digits t9f36)) (Field 37)

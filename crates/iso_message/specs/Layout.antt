@@ -22,8 +22,8 @@ abbrev pub bit_of : List ℕ → ℕ → ℕ
 bit_of fields number = (if list_any (λ field. field == number) fields then 1 else 0)
 
 -- the bits of eight fields, the first one's the highest
-abbrev pub bits_from : List ℕ → ℕ → ℕ
-bits_from fields first =
+abbrev pub bitmap_byte : List ℕ → ℕ → ℕ
+bitmap_byte fields first =
     128 * bit_of fields first
     + 64 * bit_of fields (first + 1)
     + 32 * bit_of fields (first + 2)
@@ -35,7 +35,7 @@ bits_from fields first =
 
 -- eight bytes whose bit n, the highest one of the first byte being bit 1, says whether field n follows
 unfoldable pub bitmap : List ℕ → List ℕ
-bitmap fields = map (bits_from fields) (1 ∷ 9 ∷ 17 ∷ 25 ∷ 33 ∷ 41 ∷ 49 ∷ 57 ∷ [])
+bitmap fields = map (bitmap_byte fields) (1 ∷ 9 ∷ 17 ∷ 25 ∷ 33 ∷ 41 ∷ 49 ∷ 57 ∷ [])
 
 -- the fields of a request, with the PIN block or without it
 abbrev pub request_numbers : Bool → List ℕ

@@ -24,8 +24,8 @@ Ok a >>= f = f a
 Err fault >>= f = Err fault
 
 -- goes on where the test holds
-abbrev pub only : Bool → IsoFault → Result (Unit {0}) IsoFault
-only right fault = (if right then Ok tt else Err fault)
+abbrev pub only_if : Bool → IsoFault → Result (Unit {0}) IsoFault
+only_if right fault = (if right then Ok tt else Err fault)
 
 -- the next bytes, so many, of a part that begins at a place
 unfoldable pub part_from : ℕ → ℕ → Left → Result (List ℕ × Left) IsoFault
@@ -39,28 +39,28 @@ abbrev pub part_at : ℕ → Left → Result (List ℕ × Left) IsoFault
 part_at count left = part_from left.place count left
 
 -- so many digits of a field, as characters
-unfoldable pub digits_at : ℕ → ℕ → Left → Result (List ℕ × Left) IsoFault
-digits_at field count left = do
+unfoldable pub digits_part_at : ℕ → ℕ → Left → Result (List ℕ × Left) IsoFault
+digits_part_at field count left = do
   part ← part_at count left
-  right ← only (are_numerals part.0) (Field field)
+  right ← only_if (are_numerals part.0) (Field field)
   Ok part
 
 -- a field's content behind its length of so many digits; the bytes that end within it end within the field
 unfoldable pub counted_at : ℕ → ℕ → Left → Result (List ℕ × Left) IsoFault
 counted_at field count left = do
-  size ← digits_at field count left
+  size ← digits_part_at field count left
   part_from left.place (number_of_digits (values size.0)) size.1
 
 -- this bitmap
 unfoldable pub bits_at : List ℕ → Left → Result Left IsoFault
 bits_at bits left = do
   part ← part_at 8 left
-  right ← only (bytes_eq part.0 bits) Bitmap
+  right ← only_if (bytes_eq part.0 bits) Bitmap
   Ok part.1
 
 -- nothing is left
 abbrev pub nothing_left : Left → Result (Unit {0}) IsoFault
-nothing_left left = only (length left.bytes == 0) (Rest left.place)
+nothing_left left = only_if (length left.bytes == 0) (Rest left.place)
 
 -- items that are spelled as they are written, one behind the other
 abbrev pub as_written : List ℕ → Result (List ItemData) TlvFault → Result (List ItemData) IsoFault

@@ -23,18 +23,18 @@ kind_by type found =
     else Err WrongType
 
 -- the type at the front of a message
-unfoldable pub kind_at : (CallKind → List ℕ) → Left → Result (CallKind × Left) IsoFault
-kind_at type left = do
+unfoldable pub call_kind_at : (CallKind → List ℕ) → Left → Result (CallKind × Left) IsoFault
+call_kind_at type left = do
   part ← part_at 4 left
   found ← kind_by type part.0
   Ok (found, part.1)
 
 -- a message of which nothing was read
-abbrev pub whole : List ℕ → Left
-whole bytes = record { place = 0; bytes = bytes }
+abbrev pub unread_message : List ℕ → Left
+unread_message bytes = record { place = 0; bytes = bytes }
 
-unfoldable pub request_at : Left → Result RequestData IsoFault
-request_at left = do
+unfoldable pub iso_request_at : Left → Result RequestData IsoFault
+iso_request_at left = do
   front ← request_front_at left
   items ← items_at front.1
   found ← in_55 (request_in front.0 items.0.1)
@@ -42,8 +42,8 @@ request_at left = do
   end ← nothing_left items.1
   Ok found
 
-unfoldable pub present_at : Left → Result PresentData IsoFault
-present_at left = do
+unfoldable pub iso_present_at : Left → Result PresentData IsoFault
+iso_present_at left = do
   front ← present_front_at left
   items ← items_at front.1
   found ← in_55 (present_in front.0 items.0.1)
@@ -51,8 +51,8 @@ present_at left = do
   end ← nothing_left items.1
   Ok found
 
-unfoldable pub reversal_at : Left → Result ReversalFields IsoFault
-reversal_at left = do
+unfoldable pub iso_reversal_at : Left → Result ReversalFields IsoFault
+iso_reversal_at left = do
   front ← reversal_front_at left
   items ← items_at front.1
   found ← in_55 (reversal_in front.0 items.0.1)
@@ -62,14 +62,14 @@ reversal_at left = do
 
 -- the call of a kind, behind its type
 abbrev pub call_at : CallKind → Left → Result Incoming IsoFault
-call_at kind.Request left = request_at left >>= λ fields. Ok (Request fields)
-call_at kind.Presentment left = present_at left >>= λ fields. Ok (Present fields)
-call_at kind.Reversal left = reversal_at left >>= λ fields. Ok (Reverse fields)
+call_at kind.Request left = iso_request_at left >>= λ fields. Ok (Request fields)
+call_at kind.Presentment left = iso_present_at left >>= λ fields. Ok (Present fields)
+call_at kind.Reversal left = iso_reversal_at left >>= λ fields. Ok (Reverse fields)
 
 -- the call from its type on
 abbrev pub call_from : Left → Result Incoming IsoFault
-call_from left = kind_at call_type left >>= λ found. call_at found.0 found.1
+call_from left = call_kind_at call_type left >>= λ found. call_at found.0 found.1
 
 -- the call
 abbrev pub call_of : List ℕ → Result Incoming IsoFault
-call_of bytes = call_from (whole bytes)
+call_of bytes = call_from (unread_message bytes)

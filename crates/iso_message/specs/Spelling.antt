@@ -12,27 +12,27 @@ use Rattle.iso_message.specs.declared.kind.CallKind.{CallKind}
 use Rattle.iso_message.specs.declared.kind.CallKind.TheVariants as kind
 use Rattle.iso_message.specs.Items.{request_items, present_items, reversal_items, reply_items}
 use Rattle.iso_message.specs.Layout.{call_type, reply_type, bitmap}
-use Rattle.iso_message.specs.Text.{text, zeros, counted, counter}
+use Rattle.iso_message.specs.Text.{digit_characters, zeros, with_length, counter_digits}
 
 -- 2, the account number
-abbrev pub account_field : List ℕ → ℕ × List ℕ
-account_field pan = (2, counted 2 (text pan))
+abbrev pub account_number_field : List ℕ → ℕ × List ℕ
+account_number_field pan = (2, with_length 2 (digit_characters pan))
 
 -- 3, the processing code: the transaction type 9C, then four zeros
 abbrev pub processing_field : List ℕ → ℕ × List ℕ
-processing_field t9c = (3, text (nibbles t9c) ++ zeros 4)
+processing_field t9c = (3, digit_characters (nibbles t9c) ++ zeros 4)
 
 -- 4, the amount
 abbrev pub amount_field : List ℕ → ℕ × List ℕ
-amount_field t9f02 = (4, text (nibbles t9f02))
+amount_field t9f02 = (4, digit_characters (nibbles t9f02))
 
 -- 11, the system trace audit number: the card's counter
 abbrev pub audit_field : List ℕ → ℕ × List ℕ
-audit_field t9f36 = (11, counter t9f36)
+audit_field t9f36 = (11, counter_digits t9f36)
 
 -- 37, the retrieval reference number: the counter again behind six zeros
 abbrev pub reference_field : List ℕ → ℕ × List ℕ
-reference_field t9f36 = (37, zeros 6 ++ counter t9f36)
+reference_field t9f36 = (37, zeros 6 ++ counter_digits t9f36)
 
 -- 39, the response code
 abbrev pub code_field : List ℕ → ℕ × List ℕ
@@ -44,11 +44,11 @@ terminal_field t9f1c = (41, t9f1c)
 
 -- 49, the currency: the last three digits of 5F2A
 abbrev pub currency_field : List ℕ → ℕ × List ℕ
-currency_field t5f2a = (49, text (drop 1 (nibbles t5f2a)))
+currency_field t5f2a = (49, digit_characters (drop 1 (nibbles t5f2a)))
 
 -- 55, the items that no other field has
 abbrev pub items_field : List (ℕ × List ℕ) → ℕ × List ℕ
-items_field items = (55, counted 4 (spelled items))
+items_field items = (55, with_length 4 (spelled items))
 
 -- what stands in the fields
 abbrev pub contents : List (ℕ × List ℕ) → List ℕ
@@ -60,10 +60,10 @@ abbrev pub in_fields : List ℕ → List (ℕ × List ℕ) → List ℕ
 in_fields type fields = type ++ (bitmap (map (λ field. field.0) fields) ++ contents fields)
 
 -- a request; 52 is the block of an online PIN
-unfoldable pub request_bytes : RequestData → List ℕ
-request_bytes f =
+unfoldable pub iso_request_bytes : RequestData → List ℕ
+iso_request_bytes f =
     in_fields (call_type kind.Request)
-    (account_field f.named.pan
+    (account_number_field f.named.pan
     ∷ processing_field f.paid.t9c
     ∷ amount_field f.paid.t9f02
     ∷ audit_field f.paid.t9f36
@@ -72,10 +72,10 @@ request_bytes f =
     ∷ currency_field f.paid.t5f2a
     ∷ (optional 52 f.tdf11 ++ items_field (request_items f) ∷ []))
 
-unfoldable pub present_bytes : PresentData → List ℕ
-present_bytes f =
+unfoldable pub iso_present_bytes : PresentData → List ℕ
+iso_present_bytes f =
     in_fields (call_type kind.Presentment)
-    (account_field f.named.pan
+    (account_number_field f.named.pan
     ∷ processing_field f.paid.t9c
     ∷ amount_field f.paid.t9f02
     ∷ audit_field f.paid.t9f36
@@ -86,10 +86,10 @@ present_bytes f =
     ∷ items_field (present_items f)
     ∷ [])
 
-unfoldable pub reversal_bytes : ReversalFields → List ℕ
-reversal_bytes f =
+unfoldable pub iso_reversal_bytes : ReversalFields → List ℕ
+iso_reversal_bytes f =
     in_fields (call_type kind.Reversal)
-    (account_field f.pan
+    (account_number_field f.pan
     ∷ amount_field f.t9f02
     ∷ audit_field f.t9f36
     ∷ reference_field f.t9f36
@@ -101,14 +101,14 @@ reversal_bytes f =
 
 -- a call
 abbrev pub call_bytes : Incoming → List ℕ
-call_bytes (Request f) = request_bytes f
-call_bytes (Present f) = present_bytes f
-call_bytes (Reverse f) = reversal_bytes f
+call_bytes (Request f) = iso_request_bytes f
+call_bytes (Present f) = iso_present_bytes f
+call_bytes (Reverse f) = iso_reversal_bytes f
 
 -- the reply to a call of a kind; its scripts stand as they are behind the items
-unfoldable pub reply_bytes : CallKind → ReplyData → List ℕ
-reply_bytes of reply =
+unfoldable pub iso_reply_bytes : CallKind → ReplyData → List ℕ
+iso_reply_bytes of reply =
     in_fields (reply_type of)
     (code_field reply.code
-    ∷ (55, counted 4 (spelled (reply_items reply.auth) ++ reply.scripts))
+    ∷ (55, with_length 4 (spelled (reply_items reply.auth) ++ reply.scripts))
     ∷ [])

@@ -4,8 +4,8 @@ use Rattle.std.specs.Prelude.{ℕ, zero, suc, ◌+◌, ◌*◌, ◌/◌, ◌%◌
 use Rattle.std.specs.List.{list_all}
 
 -- the characters of digits
-abbrev pub text : List ℕ → List ℕ
-text digits = map (λ digit. 48 + digit) digits
+abbrev pub digit_characters : List ℕ → List ℕ
+digit_characters digits = map (λ digit. 48 + digit) digits
 
 -- the digits of characters, each the low half of its character's byte
 abbrev pub values : List ℕ → List ℕ
@@ -28,9 +28,9 @@ decimal_digits zero number = []
 decimal_digits (suc count) number = decimal_digits count (number / 10) ++ number % 10 ∷ []
 
 -- a content behind its length of so many digits
-unfoldable pub counted : ℕ → List ℕ → List ℕ
-counted count content = text (decimal_digits count (length content)) ++ content
+unfoldable pub with_length : ℕ → List ℕ → List ℕ
+with_length count content = digit_characters (decimal_digits count (length content)) ++ content
 
 -- a counter of two bytes in six digits
-unfoldable pub counter : List ℕ → List ℕ
-counter bytes = text (decimal_digits 6 (slice_index bytes 0 * 256 + slice_index bytes 1))
+unfoldable pub counter_digits : List ℕ → List ℕ
+counter_digits bytes = digit_characters (decimal_digits 6 (slice_index bytes 0 * 256 + slice_index bytes 1))

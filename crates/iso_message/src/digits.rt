@@ -2,7 +2,7 @@
 ghost use Rattle.std.specs.Prelude.{◌≡◌, ◌+◌, ◌*◌, ◌/◌, ◌%◌, ◌≤◌, ◌∷◌, length, drop, true};
 ghost use Rattle.emv_dict.specs.Bcd.{number_of_digits};
 ghost use Rattle.emv_dict.specs.Nibbles.{nibbles, packed};
-ghost use Rattle.iso_message.specs.Text.{are_numerals as all_numerals, text, values};
+ghost use Rattle.iso_message.specs.Text.{are_numerals as all_numerals, digit_characters, values};
 
 use emv_dict::Digits;
 
@@ -108,7 +108,7 @@ pub fn six_bytes(characters: &[u8]) -> [u8; 6]
 #[tactic(auto, unfolding(emv_dict::specs::Nibbles::nibbles))]
 pub fn currency(bytes: &[u8]) -> [u8; 3]
     requires { length bytes.now ≡ 2 }
-    ensures { result ≡ text (drop 1 (nibbles bytes.now)) }
+    ensures { result ≡ digit_characters (drop 1 (nibbles bytes.now)) }
 {
     match bytes {
         [a, b] => [48 + *a % 16, 48 + *b / 16, 48 + *b % 16],

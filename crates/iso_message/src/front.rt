@@ -1,6 +1,6 @@
 //! The fields before field 55.
 ghost use Rattle.std.specs.Prelude.{◌≡◌, Ok, Err, MatchResult};
-ghost use Rattle.iso_message.specs.Front.{account_at, processing_at, numbers_at, acceptor_at, request_bitmap_at, pin_at, request_front_at, present_front_at, reversal_front_at, tied as tied_numbers};
+ghost use Rattle.iso_message.specs.Front.{account_field_at, processing_at, numbers_at, acceptor_at, request_bitmap_at, pin_at, request_front_at, present_front_at, reversal_front_at, tied as tied_numbers};
 
 use crate::bits::{present_bits, request_bits, reversal_bits};
 use crate::digits::{are_numerals, digits_of, one_byte, six_bytes, two_bytes};
@@ -54,9 +54,9 @@ pub struct ReversalFront {
 }
 
 /// The account number of field 2.
-#[tactic(auto, unfolding(crate::specs::Front::account_at))]
+#[tactic(auto, unfolding(crate::specs::Front::account_field_at))]
 fn read_account(reader: &mut Reader) -> Result<Digits, IsoFault>
-    ensures { MatchResult result (λ v. account_at reader.old ≡ Ok (v, reader.new)) (λ fault. account_at reader.old ≡ Err fault) }
+    ensures { MatchResult result (λ v. account_field_at reader.old ≡ Ok (v, reader.new)) (λ fault. account_field_at reader.old ≡ Err fault) }
 {
     let characters = reader.counted::<2>(2)?;
     if !are_numerals(characters) {

@@ -4,10 +4,10 @@
 #![tactic(auto)]
 
 mod bits;
-mod chip;
 mod digits;
 pub mod fault;
 mod front;
+mod icc;
 pub mod kind;
 mod numeral;
 pub mod read;

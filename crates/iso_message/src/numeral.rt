@@ -1,9 +1,9 @@
 //! Numbers as decimal digits of ASCII.
 ghost use Rattle.std.specs.Prelude.{◌≡◌, ◌+◌, ◌/◌, ◌%◌, ◌≤◌, ◌++◌};
-ghost use Rattle.iso_message.specs.Text.{counter as six_digits, decimal_digits, text, zeros};
+ghost use Rattle.iso_message.specs.Text.{counter_digits as six_digits, decimal_digits, digit_characters, zeros};
 
 /// A counter of two bytes in six digits.
-#[tactic(auto, unfolding(crate::specs::Text::counter, crate::specs::Text::decimal_digits))]
+#[tactic(auto, unfolding(crate::specs::Text::counter_digits, crate::specs::Text::decimal_digits))]
 pub fn counter(bytes: [u8; 2]) -> [u8; 6]
     ensures { result ≡ six_digits bytes }
 {
@@ -33,7 +33,7 @@ pub fn reference(bytes: [u8; 2]) -> [u8; 12]
 /// A number's two lowest digits.
 #[tactic(auto, unfolding(crate::specs::Text::decimal_digits))]
 pub fn two_digits(number: usize) -> [u8; 2]
-    ensures { result ≡ text (decimal_digits 2 number) }
+    ensures { result ≡ digit_characters (decimal_digits 2 number) }
 {
     [numeral(number / 10), numeral(number)]
 }
@@ -41,7 +41,7 @@ pub fn two_digits(number: usize) -> [u8; 2]
 /// A number's four lowest digits.
 #[tactic(auto, unfolding(crate::specs::Text::decimal_digits))]
 pub fn four_digits(number: usize) -> [u8; 4]
-    ensures { result ≡ text (decimal_digits 4 number) }
+    ensures { result ≡ digit_characters (decimal_digits 4 number) }
 {
     let tens = number / 10;
     let hundreds = tens / 10;

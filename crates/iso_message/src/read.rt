@@ -2,14 +2,14 @@
 ghost use Rattle.std.specs.Prelude.{◌≡◌, ◌≤◌, length, Ok, Err, MatchResult, IfOk, IfSome};
 ghost use Rattle.auth_message.specs.Whole.{IsAccepted, HasCodes, AreSpelledScripts};
 ghost use Rattle.iso_message.specs.Layout.{call_type, reply_type};
-ghost use Rattle.iso_message.specs.Reading.{kind_at, request_at, present_at, reversal_at, call_from, call_of};
-ghost use Rattle.iso_message.specs.Reply.{reply_at, reply_from, reply_of};
-ghost use Rattle.iso_message.specs.Spelling.{call_bytes, reply_bytes};
+ghost use Rattle.iso_message.specs.Reading.{call_kind_at, iso_request_at, iso_present_at, iso_reversal_at, call_from, call_of};
+ghost use Rattle.iso_message.specs.Reply.{iso_reply_at, reply_from, iso_reply_of};
+ghost use Rattle.iso_message.specs.Spelling.{call_bytes, iso_reply_bytes};
 
 use crate::bits::reply_bits;
-use crate::chip::{present_in, reply_in, request_in, reversal_in};
 use crate::fault::IsoFault;
 use crate::front::{present_front, request_front, reversal_front, tied};
+use crate::icc::{present_in, reply_in, request_in, reversal_in};
 use crate::kind::CallKind;
 use crate::reader::Reader;
 use auth_message::{Incoming, PresentFields, Reply, RequestFields, ReversalFields};
@@ -31,9 +31,9 @@ pub fn read_iso_call(bytes: &[u8]) -> Result<Incoming<'_>, IsoFault>
 /// The reply that the bytes are, with the kind of call that it answers. Else the first fault in the order of
 /// the bytes, as of a call.
 pub fn read_iso_reply(bytes: &[u8]) -> Result<(CallKind, Reply<'_>), IsoFault>
-    ensures value { MatchResult result (λ found. reply_of bytes.now ≡ Ok (found.0, found.1)) (λ fault. reply_of bytes.now ≡ Err fault) }
+    ensures value { MatchResult result (λ found. iso_reply_of bytes.now ≡ Ok (found.0, found.1)) (λ fault. iso_reply_of bytes.now ≡ Err fault) }
     // A reply has one spelling, and what was read may be written again.
-    ensures spelled { IfOk result (λ found. bytes.now ≡ reply_bytes found.0 found.1) }
+    ensures spelled { IfOk result (λ found. bytes.now ≡ iso_reply_bytes found.0 found.1) }
     ensures auth { IfOk result (λ found. IfSome found.1.auth (λ value. (8 ≤ length value) × (length value ≤ 16))) }
     ensures scripts { IfOk result (λ found. AreSpelledScripts found.1.scripts) }
 {
@@ -73,9 +73,9 @@ fn read_reply<'a>(reader: &mut Reader<'a>) -> Result<(CallKind, Reply<'a>), IsoF
 }
 
 /// The kind of a call by its type.
-#[tactic(auto, unfolding(crate::specs::Reading::kind_at))]
+#[tactic(auto, unfolding(crate::specs::Reading::call_kind_at))]
 fn call_kind(reader: &mut Reader) -> Result<CallKind, IsoFault>
-    ensures { MatchResult result (λ kind. kind_at call_type reader.old ≡ Ok (kind, reader.new)) (λ fault. kind_at call_type reader.old ≡ Err fault) }
+    ensures { MatchResult result (λ kind. call_kind_at call_type reader.old ≡ Ok (kind, reader.new)) (λ fault. call_kind_at call_type reader.old ≡ Err fault) }
 {
     let found: [u8; 4] = reader.array()?;
     if found == *b"0100" {
@@ -90,9 +90,9 @@ fn call_kind(reader: &mut Reader) -> Result<CallKind, IsoFault>
 }
 
 /// The kind of the call that a reply answers by the reply's type.
-#[tactic(auto, unfolding(crate::specs::Reading::kind_at))]
+#[tactic(auto, unfolding(crate::specs::Reading::call_kind_at))]
 fn reply_kind(reader: &mut Reader) -> Result<CallKind, IsoFault>
-    ensures { MatchResult result (λ kind. kind_at reply_type reader.old ≡ Ok (kind, reader.new)) (λ fault. kind_at reply_type reader.old ≡ Err fault) }
+    ensures { MatchResult result (λ kind. call_kind_at reply_type reader.old ≡ Ok (kind, reader.new)) (λ fault. call_kind_at reply_type reader.old ≡ Err fault) }
 {
     let found: [u8; 4] = reader.array()?;
     if found == *b"0110" {
@@ -107,9 +107,9 @@ fn reply_kind(reader: &mut Reader) -> Result<CallKind, IsoFault>
 }
 
 /// Reads a request behind its type.
-#[tactic(auto, unfolding(crate::specs::Reading::request_at))]
+#[tactic(auto, unfolding(crate::specs::Reading::iso_request_at))]
 fn read_request<'a>(reader: &mut Reader<'a>) -> Result<RequestFields<'a>, IsoFault>
-    ensures { MatchResult result (λ found. request_at reader.old ≡ Ok found) (λ fault. request_at reader.old ≡ Err fault) }
+    ensures { MatchResult result (λ found. iso_request_at reader.old ≡ Ok found) (λ fault. iso_request_at reader.old ≡ Err fault) }
 {
     let front = request_front(reader)?;
     let numbers = front.numbers;
@@ -123,9 +123,9 @@ fn read_request<'a>(reader: &mut Reader<'a>) -> Result<RequestFields<'a>, IsoFau
 }
 
 /// Reads a presentment behind its type.
-#[tactic(auto, unfolding(crate::specs::Reading::present_at))]
+#[tactic(auto, unfolding(crate::specs::Reading::iso_present_at))]
 fn read_present<'a>(reader: &mut Reader<'a>) -> Result<PresentFields<'a>, IsoFault>
-    ensures { MatchResult result (λ found. present_at reader.old ≡ Ok found) (λ fault. present_at reader.old ≡ Err fault) }
+    ensures { MatchResult result (λ found. iso_present_at reader.old ≡ Ok found) (λ fault. iso_present_at reader.old ≡ Err fault) }
 {
     let front = present_front(reader)?;
     let numbers = front.numbers;
@@ -139,9 +139,9 @@ fn read_present<'a>(reader: &mut Reader<'a>) -> Result<PresentFields<'a>, IsoFau
 }
 
 /// Reads a reversal behind its type.
-#[tactic(auto, unfolding(crate::specs::Reading::reversal_at))]
+#[tactic(auto, unfolding(crate::specs::Reading::iso_reversal_at))]
 fn read_reversal(reader: &mut Reader) -> Result<ReversalFields, IsoFault>
-    ensures { MatchResult result (λ found. reversal_at reader.old ≡ Ok found) (λ fault. reversal_at reader.old ≡ Err fault) }
+    ensures { MatchResult result (λ found. iso_reversal_at reader.old ≡ Ok found) (λ fault. iso_reversal_at reader.old ≡ Err fault) }
 {
     let front = reversal_front(reader)?;
     let mut fields = reader.items()?;
@@ -154,9 +154,9 @@ fn read_reversal(reader: &mut Reader) -> Result<ReversalFields, IsoFault>
 }
 
 /// Reads a reply behind its type.
-#[tactic(auto, unfolding(crate::specs::Reply::reply_at))]
+#[tactic(auto, unfolding(crate::specs::Reply::iso_reply_at))]
 fn read_fields<'a>(reader: &mut Reader<'a>) -> Result<Reply<'a>, IsoFault>
-    ensures { MatchResult result (λ found. reply_at reader.old ≡ Ok found) (λ fault. reply_at reader.old ≡ Err fault) }
+    ensures { MatchResult result (λ found. iso_reply_at reader.old ≡ Ok found) (λ fault. iso_reply_at reader.old ≡ Err fault) }
 {
     reader.bits(reply_bits())?;
     let code: [u8; 2] = reader.array()?;

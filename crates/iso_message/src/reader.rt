@@ -1,7 +1,7 @@
 //! What is left of a message that is read.
 ghost use Rattle.std.specs.Prelude.{◌≡◌, ◌≤◌, length, true, Ok, Err, MatchResult, IfOk};
-ghost use Rattle.iso_message.specs.Left.{part_from as taken_from, part_at, digits_at, counted_at, bits_at, items_at, nothing_left};
-ghost use Rattle.iso_message.specs.Reading.{whole};
+ghost use Rattle.iso_message.specs.Left.{part_from as taken_from, part_at, digits_part_at, counted_at, bits_at, items_at, nothing_left};
+ghost use Rattle.iso_message.specs.Reading.{unread_message};
 ghost use Rattle.iso_message.specs.Text.{are_numerals as all_numerals};
 
 use crate::digits::{are_numerals, number};
@@ -31,7 +31,7 @@ impl<'a> Model for Reader<'a> {
 impl<'a> Reader<'a> {
     /// A message of which nothing was read.
     pub fn new(bytes: &'a [u8]) -> Reader<'a>
-        ensures { result ≡ whole bytes.now }
+        ensures { result ≡ unread_message bytes.now }
     {
         Reader {
             place: 0,
@@ -65,9 +65,9 @@ impl<'a> Reader<'a> {
     }
 
     /// The characters of `N` digits of a field.
-    #[tactic(auto, unfolding(crate::specs::Left::digits_at))]
+    #[tactic(auto, unfolding(crate::specs::Left::digits_part_at))]
     pub fn digits<const N: usize>(&mut self, field: u8) -> Result<[u8; N], IsoFault>
-        ensures value { MatchResult result (λ v. digits_at field N self.old ≡ Ok (v, self.new)) (λ fault. digits_at field N self.old ≡ Err fault) }
+        ensures value { MatchResult result (λ v. digits_part_at field N self.old ≡ Ok (v, self.new)) (λ fault. digits_part_at field N self.old ≡ Err fault) }
         ensures numerals { IfOk result (λ v. all_numerals v ≡ true) }
     {
         let part = self.array()?;

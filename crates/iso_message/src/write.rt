@@ -13,16 +13,16 @@ ghost use Rattle.auth_message.specs.declared.message.Incoming.TheVariants.{Reque
 ghost use Rattle.auth_message.specs.Reply.{ReplyData};
 ghost use Rattle.iso_message.specs.declared.kind.CallKind.{CallKind};
 ghost use Rattle.auth_message.specs.Whole.{IsAccepted, HasCodes, IsCoded, AreSpelledScripts};
-ghost use Rattle.iso_message.specs.Items.{chip_items, reply_items};
+ghost use Rattle.iso_message.specs.Items.{icc_items, reply_items};
 ghost use Rattle.iso_message.specs.Layout.{reply_type as type_of_reply};
 ghost use Rattle.iso_message.specs.Reading.{call_of};
-ghost use Rattle.iso_message.specs.Reply.{reply_of};
-ghost use Rattle.iso_message.specs.Spelling.{call_bytes, request_bytes, present_bytes, reversal_bytes, reply_bytes, account_field, processing_field, amount_field, audit_field, reference_field, terminal_field, currency_field};
-ghost use Rattle.iso_message.specs.Text.{text, counted};
+ghost use Rattle.iso_message.specs.Reply.{iso_reply_of};
+ghost use Rattle.iso_message.specs.Spelling.{call_bytes, iso_request_bytes, iso_present_bytes, iso_reversal_bytes, iso_reply_bytes, account_number_field, processing_field, amount_field, audit_field, reference_field, terminal_field, currency_field};
+ghost use Rattle.iso_message.specs.Text.{digit_characters, with_length};
 
 use crate::bits::{present_bits, reply_bits, request_bits, reversal_bits};
-use crate::chip::{ChipData, chip_data};
 use crate::digits::currency;
+use crate::icc::{IccData, icc_data};
 use crate::kind::CallKind;
 use crate::numeral::{counter, four_digits, reference, two_digits};
 use auth_message::{Incoming, Message, PresentFields, Reply, RequestFields, ReversalFields};
@@ -52,10 +52,10 @@ pub fn write_iso_call(call: &Incoming<'_>, out: &mut Message)
 pub fn write_iso_reply(kind: CallKind, reply: &Reply<'_>, out: &mut Message)
     requires auth { IfSome reply.now.auth (λ value. (8 ≤ length value) × (length value ≤ 16)) }
     requires scripts { AreSpelledScripts reply.now.scripts }
-    ensures exact { out.new.items ≡ reply_bytes kind reply.now }
-    ensures read_again { reply_of (reply_bytes kind reply.now) ≡ Ok (kind, reply.now) }
+    ensures exact { out.new.items ≡ iso_reply_bytes kind reply.now }
+    ensures read_again { iso_reply_of (iso_reply_bytes kind reply.now) ≡ Ok (kind, reply.now) }
     // Another reply that is read back has other bytes, as has the same one to another kind of call.
-    ensures apart { (of : CallKind) (other : ReplyData) → reply_of (reply_bytes of other) ≡ Ok (of, other) → reply_bytes of other ≡ reply_bytes kind reply.now
+    ensures apart { (of : CallKind) (other : ReplyData) → iso_reply_of (iso_reply_bytes of other) ≡ Ok (of, other) → iso_reply_bytes of other ≡ iso_reply_bytes kind reply.now
         → (of ≡ kind) × (other ≡ reply.now) }
 {
     out.clear();
@@ -83,8 +83,8 @@ fn reply_type(kind: CallKind) -> [u8; 4]
 fn write_request(request: &RequestFields, out: &mut Message)
     requires accepted { IsRequest request.now }
     requires codes { IsCoded request.now.paid.t5f2a request.now.paid.t9c }
-    ensures exact { out.new.items ≡ request_bytes request.now }
-    ensures read_again { call_of (request_bytes request.now) ≡ Ok (Request request.now) }
+    ensures exact { out.new.items ≡ iso_request_bytes request.now }
+    ensures read_again { call_of (iso_request_bytes request.now) ≡ Ok (Request request.now) }
 {
     out.clear();
     append(out, b"0100");
@@ -97,7 +97,7 @@ fn write_request(request: &RequestFields, out: &mut Message)
     let mut items = Message::new();
     put_if_there(&mut items, 0x5F34, &request.named.t5f34);
     put(&mut items, 0x5F24, &request.t5f24);
-    put_chip(&mut items, &chip_data(&request.paid));
+    put_icc(&mut items, &icc_data(&request.paid));
     put(&mut items, 0x9F10, request.t9f10);
     put_counted(out, &items);
 }
@@ -106,8 +106,8 @@ fn write_request(request: &RequestFields, out: &mut Message)
 fn write_present(fields: &PresentFields, out: &mut Message)
     requires accepted { IsPresent fields.now }
     requires codes { IsCoded fields.now.paid.t5f2a fields.now.paid.t9c }
-    ensures exact { out.new.items ≡ present_bytes fields.now }
-    ensures read_again { call_of (present_bytes fields.now) ≡ Ok (Present fields.now) }
+    ensures exact { out.new.items ≡ iso_present_bytes fields.now }
+    ensures read_again { call_of (iso_present_bytes fields.now) ≡ Ok (Present fields.now) }
 {
     out.clear();
     append(out, b"0220");
@@ -119,7 +119,7 @@ fn write_present(fields: &PresentFields, out: &mut Message)
     put_acceptor(out, fields.named.t9f1c, fields.paid.t5f2a);
     let mut items = Message::new();
     put_if_there(&mut items, 0x5F34, &fields.named.t5f34);
-    put_chip(&mut items, &chip_data(&fields.paid));
+    put_icc(&mut items, &icc_data(&fields.paid));
     put(&mut items, 0x9F10, fields.t9f10);
     put_counted(out, &items);
 }
@@ -128,8 +128,8 @@ fn write_present(fields: &PresentFields, out: &mut Message)
 fn write_reversal(fields: &ReversalFields, out: &mut Message)
     requires accepted { IsReversal fields.now }
     requires codes { IsTrue (is_code fields.now.t5f2a) }
-    ensures exact { out.new.items ≡ reversal_bytes fields.now }
-    ensures read_again { call_of (reversal_bytes fields.now) ≡ Ok (Reverse fields.now) }
+    ensures exact { out.new.items ≡ iso_reversal_bytes fields.now }
+    ensures read_again { call_of (iso_reversal_bytes fields.now) ≡ Ok (Reverse fields.now) }
 {
     out.clear();
     append(out, b"0400");
@@ -145,11 +145,11 @@ fn write_reversal(fields: &ReversalFields, out: &mut Message)
 }
 
 /// Appends field 2.
-#[tactic(auto, unfolding(crate::specs::Text::counted))]
+#[tactic(auto, unfolding(crate::specs::Text::with_length))]
 fn put_account(out: &mut Message, pan: &Digits)
     requires sized { HasPanLength pan.now }
     requires room { length out.old.items ≤ 2000 }
-    ensures field { out.new.items ≡ out.old.items ++ (account_field pan.now).1 }
+    ensures field { out.new.items ≡ out.old.items ++ (account_number_field pan.now).1 }
     ensures decimal { AllDecimal pan.now }
     ensures short { length out.new.items ≤ length out.old.items + 21 }
 {
@@ -161,7 +161,7 @@ fn put_account(out: &mut Message, pan: &Digits)
 fn put_text(out: &mut Message, digits: &[u8])
     requires decimal { AllDecimal digits.now }
     requires room { length out.old.items + length digits.now ≤ 2048 }
-    ensures field { out.new.items ≡ out.old.items ++ text digits.now }
+    ensures field { out.new.items ≡ out.old.items ++ digit_characters digits.now }
     ensures long { length out.new.items ≡ length out.old.items + length digits.now }
 {
     for digit in digits {
@@ -173,7 +173,7 @@ fn put_text(out: &mut Message, digits: &[u8])
 
 fn put_packed(out: &mut Message, bytes: &[u8])
     requires { length out.old.items + 2 * length bytes.now ≤ 2048 }
-    ensures field { out.new.items ≡ out.old.items ++ text (nibbles bytes.now) }
+    ensures field { out.new.items ≡ out.old.items ++ digit_characters (nibbles bytes.now) }
     ensures long { length out.new.items ≡ length out.old.items + 2 * length bytes.now }
 {
     for byte in bytes {
@@ -228,29 +228,29 @@ fn put_block(out: &mut Message, block: &Option<[u8; 8]>)
 }
 
 /// Appends field 55.
-#[tactic(auto, unfolding(crate::specs::Text::counted))]
+#[tactic(auto, unfolding(crate::specs::Text::with_length))]
 fn put_counted(out: &mut Message, content: &[u8])
     requires { length out.old.items + length content.now ≤ 2044 }
-    ensures { out.new.items ≡ out.old.items ++ counted 4 content.now }
+    ensures { out.new.items ≡ out.old.items ++ with_length 4 content.now }
 {
     append(out, &four_digits(content.len()));
     append(out, content);
 }
 
 /// Appends what the items of a request and of a presentment share, but 9F10.
-fn put_chip(out: &mut Message, chip: &ChipData)
+fn put_icc(out: &mut Message, icc: &IccData)
     requires room { length out.old.items ≤ 1500 }
-    ensures fields { out.new.items ≡ out.old.items ++ spelled (chip_items chip.now) }
+    ensures fields { out.new.items ≡ out.old.items ++ spelled (icc_items icc.now) }
     ensures short { length out.new.items ≤ length out.old.items + 304 }
 {
-    put(out, 0x9F03, &chip.t9f03);
-    put(out, 0x9F1A, &chip.t9f1a);
-    put(out, 0x95, &chip.t95);
-    put(out, 0x9A, &chip.t9a);
-    put(out, 0x9F37, &chip.t9f37);
-    put(out, 0x82, &chip.t82);
-    put(out, 0x9F36, &chip.t9f36);
-    put(out, 0x9F26, &chip.t9f26);
+    put(out, 0x9F03, &icc.t9f03);
+    put(out, 0x9F1A, &icc.t9f1a);
+    put(out, 0x95, &icc.t95);
+    put(out, 0x9A, &icc.t9a);
+    put(out, 0x9F37, &icc.t9f37);
+    put(out, 0x82, &icc.t82);
+    put(out, 0x9F36, &icc.t9f36);
+    put(out, 0x9F26, &icc.t9f26);
 }
 
 /// Appends an item of one byte that may be absent.

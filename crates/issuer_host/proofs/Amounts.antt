@@ -1,24 +1,24 @@
 -- Twelve decimal digits are at most the greatest amount.
 use Rattle.std.proofs.Common.{◌≡◌, ℕ, ◌+◌, ◌*◌, ◌/◌, ◌%◌, ◌≤◌, true, List, [], ◌∷◌, length, arith}
 use Rattle.std.proofs.lemmas.Bool.Decides.{nat_tests}
-use Rattle.emv_dict.specs.Bcd.{has_digits, number_of, number_in}
+use Rattle.emv_dict.specs.Bcd.{has_digits, number_of_bcd, number_in}
 use Rattle.emv_dict.specs.Nibbles.{nibbles, is_decimal}
 use Rattle.emv_dict.specs.Settings.{most_amount}
 use Rattle.ber_tlv.proofs.ReadAgain.{both}
-use Rattle.auth_message.specs.Accepted.{AreDigits}
+use Rattle.auth_message.specs.Accepted.{AreDigitBytes}
 
-digit_small : (byte : ℕ) → has_digits byte ≡ true → number_of byte ≤ 99
+digit_small : (byte : ℕ) → has_digits byte ≡ true → number_of_bcd byte ≤ 99
 digit_small byte is =
     let halves = both (is_decimal (byte / 16)) (is_decimal (byte % 16)) is in
     let high : byte / 16 ≤ 9 = grind (arith, nat_tests, halves.0) in
     let low : byte % 16 ≤ 9 = grind (arith, nat_tests, halves.1) in
     omega arith
 
-number_of_six : (a b c d e f : ℕ) → number_in (a ∷ b ∷ c ∷ d ∷ e ∷ f ∷ []) ≡ number_of a * 10000000000 + number_of b * 100000000 + number_of c * 1000000 + number_of d * 10000 + number_of e * 100 + number_of f
+number_of_six : (a b c d e f : ℕ) → number_in (a ∷ b ∷ c ∷ d ∷ e ∷ f ∷ []) ≡ number_of_bcd a * 10000000000 + number_of_bcd b * 100000000 + number_of_bcd c * 1000000 + number_of_bcd d * 10000 + number_of_bcd e * 100 + number_of_bcd f
 unfolding number_in nibbles
 number_of_six a b c d e f = omega arith
 
-pub amount_small : (bytes : List ℕ) → length bytes ≡ 6 → AreDigits bytes → number_in bytes ≤ most_amount
+pub amount_small : (bytes : List ℕ) → length bytes ≡ 6 → AreDigitBytes bytes → number_in bytes ≤ most_amount
 amount_small [] six digits = absurd (omega arith)
 amount_small (a ∷ []) six digits = absurd (omega arith)
 amount_small (a ∷ b ∷ []) six digits = absurd (omega arith)

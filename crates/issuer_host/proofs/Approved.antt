@@ -11,11 +11,11 @@ use Rattle.host_ledger.specs.declared.key.Key.{Key}
 use Rattle.issuer_host.specs.declared.code.Code.TheVariants.{Approved, Declined, NoFunds, Expired, WrongPin}
 use Rattle.issuer_host.specs.declared.keys.HostKeys.{HostKeys}
 use Rattle.issuer_host.specs.Account.{AccountData}
-use Rattle.issuer_host.specs.Balance.{is_booked, is_released, taken}
+use Rattle.issuer_host.specs.Balance.{is_booked, is_released, taken_in_all}
 use Rattle.issuer_host.specs.Books.{Books, kept_at}
 use Rattle.issuer_host.specs.Code.{is_approved}
 use Rattle.issuer_host.specs.Records.{RecordsData, balance_left, is_open}
-use Rattle.issuer_host.specs.Reply.{request_key, present_key, reversal_key, request_is_genuine, present_is_genuine, day_of, pin_is_wrong, is_closed, request_code, present_code, plain, online_reply, request_reply, present_reply, reversal_reply}
+use Rattle.issuer_host.specs.Reply.{request_key, present_key, reversal_key, request_is_genuine, present_is_genuine, date_of_digits, pin_is_wrong, is_closed, request_code, present_code, code_alone, online_reply, request_reply, present_reply, reversal_reply}
 
 chain : (a b c d e f : Bool) → is_approved (if a then Declined else if b then Declined else if c then Declined else if d then Expired else if e then WrongPin else if f then NoFunds else Approved) ≡ true → (c ≡ false) × (f ≡ false)
 chain true b c d e f is = cc
@@ -31,17 +31,17 @@ pub record OpenRequest (account : Option AccountData) (books : Books) (f : Reque
   pub own : AccountData
   pub known : account ≡ Some own
   pub closed : is_closed books (request_key f) ≡ false
-  pub covered : int_lt (pos own.balance -ℤ pos (taken own.pan books)) (pos (number_in f.paid.t9f02)) ≡ false
+  pub covered : int_lt (pos own.balance -ℤ pos (taken_in_all own.pan books)) (pos (number_in f.paid.t9f02)) ≡ false
 
 pub request_open : (keys : HostKeys) (account : Option AccountData) (books : Books) (f : RequestData) → is_approved (request_reply keys account books f).code ≡ true → OpenRequest account books f
 unfolding request_code
 request_open keys None books f is = cc
 request_open keys (Some a) books f is = by (request_is_genuine keys f) is
   where
-    by : (g : Bool) → is_approved (if g then online_reply keys a books f (request_code keys a books f) else plain Declined).code ≡ true → OpenRequest (Some a) books f
+    by : (g : Bool) → is_approved (if g then online_reply keys a books f (request_code keys a books f) else code_alone Declined).code ≡ true → OpenRequest (Some a) books f
     by false h = cc
     by true h =
-        let facts = chain a.blocked (not (bytes_eq f.paid.t5f2a a.currency)) (is_closed books (request_key f)) (is_earlier (day_of f.t5f24) (day_of f.paid.t9a)) (pin_is_wrong keys.pin a.pin a.pan f.tdf11) (int_lt (pos a.balance -ℤ pos (taken a.pan books)) (pos (number_in f.paid.t9f02))) h in
+        let facts = chain a.blocked (not (bytes_eq f.paid.t5f2a a.currency)) (is_closed books (request_key f)) (is_earlier (date_of_digits f.t5f24) (date_of_digits f.paid.t9a)) (pin_is_wrong keys.pin a.pin a.pan f.tdf11) (int_lt (pos a.balance -ℤ pos (taken_in_all a.pan books)) (pos (number_in f.paid.t9f02))) h in
         record { own = a; known = refl; closed = facts.0; covered = facts.1 }
 
 swap_none : (r p : Bool) → (r || p) ≡ false → not (p || r) ≡ true

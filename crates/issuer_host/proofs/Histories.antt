@@ -7,7 +7,7 @@ use Rattle.issuer_host.specs.declared.keys.HostKeys.{HostKeys}
 use Rattle.issuer_host.specs.Account.{AccountData}
 use Rattle.issuer_host.specs.Books.{Books, no_books}
 use Rattle.issuer_host.specs.History.{HostData, HostStands, books_with, books_from, books_of, kept_in, host_reply}
-use Rattle.issuer_host.specs.Reply.{reply_in, reply_to}
+use Rattle.issuer_host.specs.Reply.{reply_to_message, reply_to}
 
 pub books_grow : (keys : HostKeys) (accounts : List AccountData) (books : Books) (messages : List (List ℕ)) (message : List ℕ)
     → books_from keys accounts books (messages ++ message ∷ []) ≡ books_with keys accounts (books_from keys accounts books messages) message
@@ -16,10 +16,10 @@ books_grow keys accounts books (first ∷ messages) message = books_grow keys ac
 
 -- the reply from what the host keeps is that of the whole list
 pub replied : (host : HostData) (messages : List (List ℕ)) (message : List ℕ) (reading : Result Incoming MessageFault) → message_of message ≡ reading → HostStands host messages
-    → reply_in host.keys host.accounts host.books message reading ≡ host_reply host.keys host.accounts messages message
+    → reply_to_message host.keys host.accounts host.books message reading ≡ host_reply host.keys host.accounts messages message
 unfolding reply_to
 replied host messages message reading is stands =
-    ap (reply_in host.keys host.accounts host.books message) (sym is) ∙ ap (λ b. reply_in host.keys host.accounts b message (message_of message)) stands.books
+    ap (reply_to_message host.keys host.accounts host.books message) (sym is) ∙ ap (λ b. reply_to_message host.keys host.accounts b message (message_of message)) stands.books
 
 -- the host has had one message more
 pub stands_after : (host after : HostData) (messages : List (List ℕ)) (message : List ℕ) (reading : Result Incoming MessageFault) → message_of message ≡ reading → HostStands host messages → after.keys ≡ host.keys → after.accounts ≡ host.accounts

@@ -10,7 +10,7 @@ use Rattle.triple_des.specs.Bits.{xor_bytes}
 use Rattle.triple_des.specs.Des.{enciphered}
 use Rattle.triple_des.specs.Mac.{mac}
 use Rattle.triple_des.specs.TripleDes.{tdes}
-use Rattle.triple_des.proofs.ByteLists.{length-bytes_of}
+use Rattle.triple_des.proofs.ByteLists.{length-bytes_from_bits}
 use Rattle.app_cryptogram.specs.Cryptograms.{arpc_of, arpc_two_of, script_mac_of}
 use Rattle.pin_block.specs.Block.{block_of}
 use Rattle.script_words.specs.MadeLength.{template_tag, data_length, command_length, order_length, identifier_length, content_length, made_length, all_made_length}
@@ -18,13 +18,13 @@ use Rattle.script_words.specs.Script.{ScriptData, IsScript}
 use Rattle.script_words.specs.declared.script.Word.{Word}
 use Rattle.script_words.specs.declared.script.Word.TheVariants.{Block, Unblock, CardBlock, PinUnblock, Pin, Count, Amount}
 use Rattle.script_words.specs.declared.script.Ordered.{Ordered}
-use Rattle.issuer_host.specs.Scripts.{header_of, data_of, mac_bytes, mac_of, command_bytes, order_bytes, identifier_bytes, script_bytes, all_script_bytes}
+use Rattle.issuer_host.specs.Scripts.{script_header, script_command_data, mac_bytes, mac_of, script_command_bytes, order_bytes, identifier_bytes, script_bytes, all_script_bytes}
 use Rattle.issuer_host.specs.declared.script.ScriptKeys.{ScriptKeys}
 use Rattle.issuer_host.proofs.Sizes.{written_size}
 
 length-enciphered : (keys : List (List ℕ)) (block : List ℕ) → length (enciphered keys block) ≡ 8
 unfolding enciphered
-length-enciphered keys block = length-bytes_of 8 _
+length-enciphered keys block = length-bytes_from_bits 8 _
 
 length-tdes : (key block : List ℕ) → length (tdes key block) ≡ 8
 unfolding tdes
@@ -55,7 +55,7 @@ unfolding numeric
 length-numeric zero n = refl
 length-numeric (suc count) n = length-append (numeric count (n / 100)) (two_digits (n % 100) ∷ []) ∙ rw (length-numeric count (n / 100)) (omega arith)
 
-data_size : (keys : ScriptKeys) (word : Word) → length (data_of keys word) ≡ data_length word
+data_size : (keys : ScriptKeys) (word : Word) → length (script_command_data keys word) ≡ data_length word
 data_size keys Block = refl
 data_size keys Unblock = refl
 data_size keys CardBlock = refl
@@ -72,7 +72,7 @@ code_size : (bad : Bool) (mac : List ℕ) → length mac ≡ 8 → length (mac_b
 code_size true mac eight = length-xor_bytes mac (0 ∷ 0 ∷ 0 ∷ 0 ∷ 0 ∷ 0 ∷ 0 ∷ 0xFF ∷ []) eight ∙ eight
 code_size false mac eight = eight
 
-header_size : (word : Word) → length (header_of word) ≡ 4
+header_size : (word : Word) → length (script_header word) ≡ 4
 header_size Block = refl
 header_size Unblock = refl
 header_size CardBlock = refl
@@ -81,16 +81,16 @@ header_size (Pin digits) = refl
 header_size (Count limit) = refl
 header_size (Amount limit) = refl
 
-command_size : (keys : ScriptKeys) (order : Ordered) → length (command_bytes keys order) ≡ command_length order.word
+command_size : (keys : ScriptKeys) (order : Ordered) → length (script_command_bytes keys order) ≡ command_length order.word
 command_size keys order =
-    let payload = data_of keys order.word in
+    let payload = script_command_data keys order.word in
     let code = mac_bytes order.bad (mac_of keys order.word) in
-    let eight : length code ≡ 8 = code_size order.bad _ (length-script_mac keys.mac (header_of order.word) keys.counter keys.cryptogram payload) in
-    omega (arith, length-append (header_of order.word) ((length payload + 8) ∷ (payload ++ code)), length-append payload code, header_size order.word, data_size keys order.word)
+    let eight : length code ≡ 8 = code_size order.bad _ (length-script_mac keys.mac (script_header order.word) keys.counter keys.cryptogram payload) in
+    omega (arith, length-append (script_header order.word) ((length payload + 8) ∷ (payload ++ code)), length-append payload code, header_size order.word, data_size keys order.word)
 
 order_size : (keys : ScriptKeys) (order : Ordered) → length (order_bytes keys order) ≡ order_length order
 unfolding order_bytes order_length
-order_size keys order = written_size 0x86 (command_bytes keys order) ∙ ap (written_length 0x86) (command_size keys order)
+order_size keys order = written_size 0x86 (script_command_bytes keys order) ∙ ap (written_length 0x86) (command_size keys order)
 
 identifier_size : (id : Option (List ℕ)) → IfSome id (λ id. length id ≡ 4) → length (identifier_bytes id) ≡ identifier_length id
 identifier_size None four = refl

@@ -16,11 +16,11 @@ use Rattle.auth_message.proofs.Templates.{none_spelled}
 use Rattle.host_ledger.specs.Key.{same_key}
 use Rattle.host_ledger.specs.declared.key.Key.{Key}
 use Rattle.issuer_host.specs.Account.{AccountData, IsAccount}
-use Rattle.issuer_host.specs.Balance.{account_of}
-use Rattle.issuer_host.specs.Books.{Kept, Books, no_books, kept_at}
+use Rattle.issuer_host.specs.Balance.{account_with_pan}
+use Rattle.issuer_host.specs.Books.{KeptCall, Books, no_books, kept_at}
 use Rattle.issuer_host.specs.Code.{code_bytes}
 use Rattle.issuer_host.specs.History.{with_first, kept_in, books_with, books_from, host_reply}
-use Rattle.issuer_host.specs.Reply.{request_key, present_key, reversal_key, session_of, request_is_genuine, request_code, present_code, reversal_code, plain, said_bytes, is_served, script_keys, scripts_for, response_of, online_reply, request_reply, present_reply, reversal_reply, new_request, new_present, new_reversal, again_or, reply_in, reply_to}
+use Rattle.issuer_host.specs.Reply.{request_key, present_key, reversal_key, session_of, request_is_genuine, request_code, present_code, reversal_code, code_alone, said_bytes, is_served, script_keys, scripts_for, keyed_response, online_reply, request_reply, present_reply, reversal_reply, new_request, new_present, new_reversal, again_or, reply_to_message, reply_to}
 use Rattle.issuer_host.specs.Scripts.{all_script_bytes}
 use Rattle.issuer_host.specs.declared.code.Code.{Code}
 use Rattle.issuer_host.specs.declared.code.Code.TheVariants.{Declined, UnknownAccount}
@@ -31,10 +31,10 @@ use Rattle.issuer_host.proofs.Responses.{two_bytes, response_least, response_mos
 
 -- the replies that a host makes have a property
 pub record Made (P : List ℕ → Type 0) (keys : HostKeys) (accounts : List AccountData) : Type 0 where
-  pub plain : (code : Code) → P (said_bytes (plain code))
-  pub online : (pan : List ℕ) (account : AccountData) → account_of pan accounts ≡ Some account → (books : Books) (f : RequestData) (code : Code) → P (said_bytes (online_reply keys account books f code))
+  pub plain : (code : Code) → P (said_bytes (code_alone code))
+  pub online : (pan : List ℕ) (account : AccountData) → account_with_pan pan accounts ≡ Some account → (books : Books) (f : RequestData) (code : Code) → P (said_bytes (online_reply keys account books f code))
 
-abbrev KeptHas : (List ℕ → Type 0) → Kept → Type 0
+abbrev KeptHas : (List ℕ → Type 0) → KeptCall → Type 0
 KeptHas P kept = P kept.reply
 
 -- so do those that it kept
@@ -47,14 +47,14 @@ none_has : (P : List ℕ → Type 0) → BooksHave P no_books
 none_has P = record { requests = All-nil (KeptHas P); presentments = All-nil (KeptHas P); reversals = All-nil (KeptHas P) }
 
 module _ (P : List ℕ → Type 0) (keys : HostKeys) (accounts : List AccountData) (made : Made P keys accounts) where
-  request_has : (books : Books) (f : RequestData) → P (said_bytes (request_reply keys (account_of f.named.pan accounts) books f))
-  request_has books f = by (account_of f.named.pan accounts) refl
+  request_has : (books : Books) (f : RequestData) → P (said_bytes (request_reply keys (account_with_pan f.named.pan accounts) books f))
+  request_has books f = by (account_with_pan f.named.pan accounts) refl
     where
-      genuine_or : (account : AccountData) → account_of f.named.pan accounts ≡ Some account → (genuine : Bool) → P (said_bytes (if genuine then online_reply keys account books f (request_code keys account books f) else plain Declined))
+      genuine_or : (account : AccountData) → account_with_pan f.named.pan accounts ≡ Some account → (genuine : Bool) → P (said_bytes (if genuine then online_reply keys account books f (request_code keys account books f) else code_alone Declined))
       genuine_or account known true = made.online f.named.pan account known books f (request_code keys account books f)
       genuine_or account known false = made.plain Declined
 
-      by : (account : Option AccountData) → account_of f.named.pan accounts ≡ account → P (said_bytes (request_reply keys account books f))
+      by : (account : Option AccountData) → account_with_pan f.named.pan accounts ≡ account → P (said_bytes (request_reply keys account books f))
       by None known = made.plain UnknownAccount
       by (Some account) known = genuine_or account known (request_is_genuine keys f)
 
@@ -66,7 +66,7 @@ module _ (P : List ℕ → Type 0) (keys : HostKeys) (accounts : List AccountDat
   reversal_has None books f = made.plain UnknownAccount
   reversal_has (Some account) books f = made.plain (reversal_code books f)
 
-  found_has : (key : Key) (messages : List Kept) → All (KeptHas P) messages → IfSome (kept_at key messages) (KeptHas P)
+  found_has : (key : Key) (messages : List KeptCall) → All (KeptHas P) messages → IfSome (kept_at key messages) (KeptHas P)
   found_has key [] all = tt
   found_has key (kept ∷ others) all = by (found_has key others (All-tail (KeptHas P) kept others all)) (same_key key kept.key)
     where
@@ -74,29 +74,29 @@ module _ (P : List ℕ → Type 0) (keys : HostKeys) (accounts : List AccountDat
       by later true = All-head (KeptHas P) kept others all
       by later false = later
 
-  again_has : (kept : Option Kept) (message reply : List ℕ) → IfSome kept (KeptHas P) → P reply → P (again_or kept message reply)
+  again_has : (kept : Option KeptCall) (message reply : List ℕ) → IfSome kept (KeptHas P) → P reply → P (again_or kept message reply)
   again_has None message reply found new = new
   again_has (Some kept) message reply found new = by (bytes_eq kept.message message)
     where
-      by : (same : Bool) → P (if same then kept.reply else said_bytes (plain Declined))
+      by : (same : Bool) → P (if same then kept.reply else said_bytes (code_alone Declined))
       by true = found
       by false = made.plain Declined
 
-  first_has : (kept : Option Kept) (new : Kept) (messages : List Kept) → All (KeptHas P) messages → KeptHas P new → All (KeptHas P) (with_first kept new messages)
+  first_has : (kept : Option KeptCall) (new : KeptCall) (messages : List KeptCall) → All (KeptHas P) messages → KeptHas P new → All (KeptHas P) (with_first kept new messages)
   first_has None new messages all has = All-push (KeptHas P) messages new all has
   first_has (Some kept) new messages all has = all
 
-  reply_has : (books : Books) (message : List ℕ) (read : Result Incoming MessageFault) → BooksHave P books → P (reply_in keys accounts books message read)
+  reply_has : (books : Books) (message : List ℕ) (read : Result Incoming MessageFault) → BooksHave P books → P (reply_to_message keys accounts books message read)
   reply_has books message (Err fault) all = made.plain Declined
   reply_has books message (Ok (Request f)) all =
       again_has (kept_at (request_key f) books.requests) message (new_request keys accounts books message f).reply (found_has (request_key f) books.requests all.requests)
       (request_has books f)
   reply_has books message (Ok (Present f)) all =
       again_has (kept_at (present_key f) books.presentments) message (new_present keys accounts books message f).reply (found_has (present_key f) books.presentments all.presentments)
-      (present_has (account_of f.named.pan accounts) books f)
+      (present_has (account_with_pan f.named.pan accounts) books f)
   reply_has books message (Ok (Reverse f)) all =
       again_has (kept_at (reversal_key f) books.reversals) message (new_reversal accounts books message f).reply (found_has (reversal_key f) books.reversals all.reversals)
-      (reversal_has (account_of f.pan accounts) books f)
+      (reversal_has (account_with_pan f.pan accounts) books f)
 
   kept_has : (books : Books) (message : List ℕ) (read : Result Incoming MessageFault) → BooksHave P books → BooksHave P (kept_in keys accounts books message read)
   kept_has books message (Err fault) all = all
@@ -107,13 +107,13 @@ module _ (P : List ℕ → Type 0) (keys : HostKeys) (accounts : List AccountDat
   }
   kept_has books message (Ok (Present f)) all = record {
     requests = all.requests;
-    presentments = first_has (kept_at (present_key f) books.presentments) (new_present keys accounts books message f) books.presentments all.presentments (present_has (account_of f.named.pan accounts) books f);
+    presentments = first_has (kept_at (present_key f) books.presentments) (new_present keys accounts books message f) books.presentments all.presentments (present_has (account_with_pan f.named.pan accounts) books f);
     reversals = all.reversals;
   }
   kept_has books message (Ok (Reverse f)) all = record {
     requests = all.requests;
     presentments = all.presentments;
-    reversals = first_has (kept_at (reversal_key f) books.reversals) (new_reversal accounts books message f) books.reversals all.reversals (reversal_has (account_of f.pan accounts) books f);
+    reversals = first_has (kept_at (reversal_key f) books.reversals) (new_reversal accounts books message f) books.reversals all.reversals (reversal_has (account_with_pan f.pan accounts) books f);
   }
 
   books_have : (books : Books) (messages : List (List ℕ)) → BooksHave P books → BooksHave P (books_from keys accounts books messages)
@@ -128,14 +128,14 @@ every_reply P keys accounts made messages message =
     reply_has P keys accounts made (books_from keys accounts no_books messages) message (message_of message) (books_have P keys accounts made no_books messages (none_has P))
 
 -- a reply with the code alone
-pub plain_written : (code : Code) → IsReply (said_bytes (plain code))
+pub plain_written : (code : Code) → IsReply (said_bytes (code_alone code))
 plain_written code = reply_written (code_bytes code) None [] (two_bytes code) tt none_spelled
 
-known_account : (pan : List ℕ) (accounts : List AccountData) (account : AccountData) → All IsAccount accounts → account_of pan accounts ≡ Some account → IsAccount account
+known_account : (pan : List ℕ) (accounts : List AccountData) (account : AccountData) → All IsAccount accounts → account_with_pan pan accounts ≡ Some account → IsAccount account
 known_account pan [] account all known = cc
 known_account pan (first ∷ others) account all known = by (λ known. known_account pan others account (All-tail IsAccount first others all) known) (bytes_eq pan first.pan) known
   where
-    by : (account_of pan others ≡ Some account → IsAccount account) → (same : Bool) → (let found : Option AccountData = (if same then Some first else account_of pan others) in found) ≡ Some account → IsAccount account
+    by : (account_with_pan pan others ≡ Some account → IsAccount account) → (same : Bool) → (let found : Option AccountData = (if same then Some first else account_with_pan pan others) in found) ≡ Some account → IsAccount account
     by later true known = let same : first ≡ account = cc in subst IsAccount same (All-head IsAccount first others all)
     by later false known = later known
 
@@ -157,6 +157,6 @@ replies_written keys accounts messages message all = every_reply IsReply keys ac
           let session = session_of keys.ac (request_key f) in
           let least = response_least account.arpc account.status session f.paid.t9f26 code in
           let most = response_most account.arpc account.status session f.paid.t9f26 code in
-          reply_written (code_bytes code) (Some (response_of keys account f code)) (scripts_for keys account books f) (two_bytes code) (least, most)
+          reply_written (code_bytes code) (Some (keyed_response keys account f code)) (scripts_for keys account books f) (two_bytes code) (least, most)
           (scripts_spelled keys account books f (known_account pan accounts account all known));
     }

@@ -7,20 +7,20 @@ use Rattle.host_ledger.specs.declared.key.Key.{Key}
 use Rattle.issuer_host.specs.declared.keeping.KeptMessage.{KeptMessage}
 use Rattle.issuer_host.specs.declared.keys.HostKeys.{HostKeys}
 use Rattle.issuer_host.specs.Account.{AccountData}
-use Rattle.issuer_host.specs.Books.{Kept, Books}
+use Rattle.issuer_host.specs.Books.{KeptCall, Books}
 use Rattle.issuer_host.specs.Holds.{Holds}
 use Rattle.issuer_host.specs.Keeping.{kept_message}
 use Rattle.issuer_host.specs.Records.{RecordsData}
-use Rattle.issuer_host.specs.Reply.{Said, kept_with, said_bytes, request_reply}
+use Rattle.issuer_host.specs.Reply.{ReplySaid, kept_with, said_bytes, request_reply}
 
-pub got_some : (key : Key) (r : Option (Bor KeptMessage)) (b : Bor KeptMessage) (found : Option Kept) → option_map (λ k. kept_message key k.now) r ≡ found → r ≡ Some b → found ≡ Some (kept_message key b.now)
+pub got_some : (key : Key) (r : Option (Bor KeptMessage)) (b : Bor KeptMessage) (found : Option KeptCall) → option_map (λ k. kept_message key k.now) r ≡ found → r ≡ Some b → found ≡ Some (kept_message key b.now)
 got_some key r b found is some = sym is ∙ ap (option_map (λ k. kept_message key k.now)) some
 
-pub got_none : (key : Key) (r : Option (Bor KeptMessage)) (found : Option Kept) → option_map (λ k. kept_message key k.now) r ≡ found → r ≡ None → found ≡ None
+pub got_none : (key : Key) (r : Option (Bor KeptMessage)) (found : Option KeptCall) → option_map (λ k. kept_message key k.now) r ≡ found → r ≡ None → found ≡ None
 got_none key r found is none = sym is ∙ ap (option_map (λ k. kept_message key k.now)) none
 
 -- what was kept is what was said
-pub kept_made : (key own : Key) (kept : KeptMessage) (amount : ℕ) (message : List ℕ) (said : Said) → key ≡ own → kept.amount ≡ amount → kept.message.items ≡ message → kept.code ≡ said.code → kept.online ≡ is_some said.auth → kept.reply ≡ said_bytes said
+pub kept_made : (key own : Key) (kept : KeptMessage) (amount : ℕ) (message : List ℕ) (said : ReplySaid) → key ≡ own → kept.amount ≡ amount → kept.message.items ≡ message → kept.code ≡ said.code → kept.online ≡ is_some said.auth → kept.reply ≡ said_bytes said
     → kept_message key kept ≡ kept_with own amount message said
 kept_made key own kept amount message said a b c d e f = λ i. record { key = a i; amount = b i; message = c i; code = d i; online = e i; reply = f i }
 
@@ -38,7 +38,7 @@ holds_after (Ok x) accounts old new kept served ok err before after = subst (λ 
 holds_after (Err e) accounts old new kept served ok err before after = subst (λ n. Holds accounts n served) (sym err) before
 
 -- a presentment or a reversal more changes nothing of what is known of the accounts
-pub holds_others : (accounts : List AccountData) (records : RecordsData) (served : List Bool) (presentments reversals : List Kept) → Holds accounts records served
+pub holds_others : (accounts : List AccountData) (records : RecordsData) (served : List Bool) (presentments reversals : List KeptCall) → Holds accounts records served
     → Holds accounts (record { accounts = records.accounts; books = record { requests = records.books.requests; presentments = presentments; reversals = reversals } }) served
 holds_others accounts records served presentments reversals holds = record { valid = holds.valid; openings = holds.openings; sized = holds.sized; flags = holds.flags }
 

@@ -9,11 +9,11 @@ use Rattle.auth_message.specs.declared.message.Incoming.TheVariants.{Request, Pr
 use Rattle.issuer_host.specs.declared.keys.HostKeys.{HostKeys}
 use Rattle.issuer_host.specs.Account.{AccountData}
 use Rattle.issuer_host.specs.Balance.{balance_in}
-use Rattle.issuer_host.specs.Books.{Kept, Books, no_books, kept_at}
+use Rattle.issuer_host.specs.Books.{KeptCall, Books, no_books, kept_at}
 use Rattle.issuer_host.specs.Reply.{request_key, present_key, reversal_key, new_request, new_present, new_reversal, reply_to}
 
 -- the kept messages with a new one, where none of its transaction was kept
-abbrev pub with_first : Option Kept → Kept → List Kept → List Kept
+abbrev pub with_first : Option KeptCall → KeptCall → List KeptCall → List KeptCall
 with_first None new messages = messages ++ new ∷ []
 with_first (Some kept) new messages = messages
 
@@ -59,8 +59,8 @@ pub record HostStands (host : HostData) (messages : List (List ℕ)) : Type 0 wh
   pub books : host.books ≡ books_of host.keys host.accounts messages
 
 -- no message of this kind and transaction was kept
-abbrev pub is_new : Books → Result Incoming MessageFault → Bool
-is_new books (Err fault) = false
-is_new books (Ok (Request f)) = is_none (kept_at (request_key f) books.requests)
-is_new books (Ok (Present f)) = is_none (kept_at (present_key f) books.presentments)
-is_new books (Ok (Reverse f)) = is_none (kept_at (reversal_key f) books.reversals)
+abbrev pub is_new_message : Books → Result Incoming MessageFault → Bool
+is_new_message books (Err fault) = false
+is_new_message books (Ok (Request f)) = is_none (kept_at (request_key f) books.requests)
+is_new_message books (Ok (Present f)) = is_none (kept_at (present_key f) books.presentments)
+is_new_message books (Ok (Reverse f)) = is_none (kept_at (reversal_key f) books.reversals)

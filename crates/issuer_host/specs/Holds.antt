@@ -8,12 +8,12 @@ use Rattle.issuer_host.specs.Records.{RecordsData}
 use Rattle.issuer_host.specs.Reply.{is_served}
 
 -- the place of the first account with an account number
-abbrev pub place_in : List ℕ → List AccountData → Option ℕ
-place_in pan accounts = position_from (λ account. bytes_eq pan account.pan) 0 accounts
+abbrev pub account_place : List ℕ → List AccountData → Option ℕ
+account_place pan accounts = position_from (λ account. bytes_eq pan account.pan) 0 accounts
 
 -- the account number and its opening balance
-abbrev pub opening : AccountData → List ℕ × ℕ
-opening account = (account.pan, account.balance)
+abbrev pub opening_balance : AccountData → List ℕ × ℕ
+opening_balance account = (account.pan, account.balance)
 
 -- the account at a place
 abbrev pub account_in : List AccountData → Option ℕ → Option AccountData
@@ -37,6 +37,6 @@ with_flag flags (Some place) = set flags place true
 -- the records are those of the accounts, and for each account it is known whether a reply carried its scripts
 pub record Holds (accounts : List AccountData) (records : RecordsData) (served : List Bool) : Type 0 where
   pub valid : All IsAccount accounts
-  pub openings : records.accounts ≡ map opening accounts
+  pub openings : records.accounts ≡ map opening_balance accounts
   pub sized : length served ≡ length accounts
-  pub flags : (pan : List ℕ) (place : ℕ) → place_in pan accounts ≡ Some place → slice_get served place ≡ Some (is_served pan records.books)
+  pub flags : (pan : List ℕ) (place : ℕ) → account_place pan accounts ≡ Some place → slice_get served place ≡ Some (is_served pan records.books)

@@ -1,9 +1,9 @@
 -- A kept message as the table keeps it: under its transaction's key.
 use Rattle.host_ledger.specs.declared.key.Key.{Key}
 use Rattle.issuer_host.specs.declared.keeping.KeptMessage.{KeptMessage}
-use Rattle.issuer_host.specs.Books.{Kept}
+use Rattle.issuer_host.specs.Books.{KeptCall}
 
-abbrev pub kept_message : Key → KeptMessage → Kept
+abbrev pub kept_message : Key → KeptMessage → KeptCall
 kept_message key kept = record {
   key = key;
   amount = kept.amount;
@@ -13,5 +13,5 @@ kept_message key kept = record {
   reply = kept.reply;
 }
 
-abbrev pub kept_entry : Key × KeptMessage → Kept
-kept_entry entry = kept_message entry.0 entry.1
+abbrev pub seen_kept_call : Key × KeptMessage → KeptCall
+seen_kept_call entry = kept_message entry.0 entry.1

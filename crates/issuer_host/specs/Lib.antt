@@ -5,6 +5,7 @@ pub mod Code
 pub mod History
 pub mod Holds
 pub mod Keeping
+pub mod Reasons
 pub mod Records
 pub mod Reply
 pub mod Response

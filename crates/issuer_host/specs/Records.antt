@@ -1,14 +1,14 @@
 -- The kept messages beside the ledger of what they take.
 use Rattle.std.specs.Prelude.{◌≡◌, ℕ, ℤ, pos, ◌-ℤ◌, int_lt, Bool, false, not, ◌&&◌, ◌||◌, if◌then◌else◌, List, [], ◌∷◌, Option, Some, None, option_map}
 use Rattle.std.specs.Option.{is_some}
-use Rattle.host_ledger.specs.Accounts.{opening_of}
+use Rattle.host_ledger.specs.Accounts.{opening_balance_of}
 use Rattle.host_ledger.specs.Entries.{entry_at, taken_at, taken_from}
 use Rattle.host_ledger.specs.declared.entry.Entry.{Entry}
 use Rattle.host_ledger.specs.declared.entry.EntryState.{EntryState}
 use Rattle.host_ledger.specs.declared.entry.EntryState.TheVariants.{Held, Booked, Released}
 use Rattle.host_ledger.specs.declared.key.Key.{Key}
-use Rattle.issuer_host.specs.Balance.{is_booked, is_released, taken}
-use Rattle.issuer_host.specs.Books.{Kept, Books, kept_at, was_approved}
+use Rattle.issuer_host.specs.Balance.{is_booked, is_released, taken_in_all}
+use Rattle.issuer_host.specs.Books.{KeptCall, Books, kept_at, was_approved}
 use Rattle.issuer_host.specs.Code.{is_approved}
 
 -- the account numbers with their opening balances, and the kept messages
@@ -18,11 +18,11 @@ pub record RecordsData : Type 0 where
 
 -- the opening balance of an account number less what its transactions take
 abbrev pub balance_left : RecordsData → List ℕ → Option ℤ
-balance_left records pan = option_map (λ opening. pos opening -ℤ pos (taken pan records.books)) (opening_of pan records.accounts)
+balance_left records pan = option_map (λ opening. pos opening -ℤ pos (taken_in_all pan records.books)) (opening_balance_of pan records.accounts)
 
 -- no presentment and no reversal of the transaction was kept
-abbrev pub is_untouched : Books → Key → Bool
-is_untouched books key = not (is_some (kept_at key books.presentments) || is_some (kept_at key books.reversals))
+abbrev pub is_only_requested : Books → Key → Bool
+is_only_requested books key = not (is_some (kept_at key books.presentments) || is_some (kept_at key books.reversals))
 
 abbrev pub covers : Option ℤ → ℕ → Bool
 covers None amount = false
@@ -30,7 +30,7 @@ covers (Some balance) amount = not (int_lt balance (pos amount))
 
 -- an amount can be held for the transaction
 abbrev pub is_open : RecordsData → Key → ℕ → Bool
-is_open records key amount = is_untouched records.books key && covers (balance_left records key.pan) amount
+is_open records key amount = is_only_requested records.books key && covers (balance_left records key.pan) amount
 
 -- how far a transaction has come: its presentment was approved, else its reversal, else its request
 abbrev pub state_of : Books → Key → Option EntryState
@@ -40,7 +40,7 @@ state_of books key =
     else if was_approved (kept_at key books.requests) then Some Held
     else None
 
-abbrev pub amount_or_zero : Option Kept → ℕ
+abbrev pub amount_or_zero : Option KeptCall → ℕ
 amount_or_zero None = 0
 amount_or_zero (Some kept) = (if is_approved kept.code then kept.amount else 0)
 
@@ -53,7 +53,7 @@ amount_of books key =
     else amount_or_zero (kept_at key books.requests)
 
 -- no two of the messages are of one transaction
-abbrev pub AreOnce : List Kept → Type 0
+abbrev pub AreOnce : List KeptCall → Type 0
 AreOnce [] = Unit {0}
 AreOnce (kept ∷ others) = (kept_at kept.key others ≡ None) × AreOnce others
 
@@ -63,7 +63,7 @@ pub record EntryIs (books : Books) (key : Key) (entry : Option Entry) : Type 0 w
   pub amount : taken_at entry ≡ amount_of books key
 
 -- the ledger holds, books and releases what the kept messages say
-pub record Agrees (books : Books) (entries : List Entry) : Type 0 where
+pub record LedgerAgrees (books : Books) (entries : List Entry) : Type 0 where
   pub each : (key : Key) → EntryIs books key (entry_at key entries)
-  pub sums : (pan : List ℕ) → taken_from pan entries ≡ taken pan books
+  pub sums : (pan : List ℕ) → taken_from pan entries ≡ taken_in_all pan books
   pub once : AreOnce books.requests

@@ -4,7 +4,7 @@ use Rattle.std.specs.Int.{from_be_bytes, w16}
 use Rattle.std.specs.List.{list_any}
 use Rattle.std.specs.Option.{is_some}
 use Rattle.std.specs.Str.{bytes_eq}
-use Rattle.emv_dict.specs.Bcd.{number_of, number_in}
+use Rattle.emv_dict.specs.Bcd.{number_of_bcd, number_in}
 use Rattle.emv_dict.specs.Date.{year_of, is_earlier}
 use Rattle.emv_dict.specs.declared.date.Date.{Date}
 use Rattle.pin_block.specs.Online.{online_of}
@@ -26,8 +26,8 @@ use Rattle.issuer_host.specs.declared.code.Code.TheVariants.{Approved, Declined,
 use Rattle.issuer_host.specs.declared.keys.HostKeys.{HostKeys}
 use Rattle.issuer_host.specs.declared.script.ScriptKeys.{ScriptKeys}
 use Rattle.issuer_host.specs.Account.{AccountData}
-use Rattle.issuer_host.specs.Balance.{is_booked, is_released, taken, account_of}
-use Rattle.issuer_host.specs.Books.{Kept, Books, kept_at}
+use Rattle.issuer_host.specs.Balance.{is_booked, is_released, taken_in_all, account_with_pan}
+use Rattle.issuer_host.specs.Books.{KeptCall, Books, kept_at}
 use Rattle.issuer_host.specs.Code.{code_bytes}
 use Rattle.issuer_host.specs.Response.{response_by}
 use Rattle.issuer_host.specs.Scripts.{all_script_bytes}
@@ -81,8 +81,8 @@ abbrev pub present_is_genuine : HostKeys → PresentData → Bool
 present_is_genuine keys f = is_made_under (session_of keys.ac (present_key f)) f.paid f.t9f10
 
 -- year, month and day of three bytes of digits; they need not be a day of the calendar
-abbrev pub day_of : List ℕ → Date
-day_of bytes = record { year = year_of (number_of (slice_index bytes 0)); month = number_of (slice_index bytes 1); day = number_of (slice_index bytes 2) }
+abbrev pub date_of_digits : List ℕ → Date
+date_of_digits bytes = record { year = year_of (number_of_bcd (slice_index bytes 0)); month = number_of_bcd (slice_index bytes 1); day = number_of_bcd (slice_index bytes 2) }
 
 -- the PIN that the terminal sent, if it sent one, is not the account's
 abbrev pub pin_is_wrong : List ℕ → Option (List ℕ) → List ℕ → Option (List ℕ) → Bool
@@ -100,9 +100,9 @@ request_code keys account books f =
     if account.blocked then Declined
     else if not (bytes_eq f.paid.t5f2a account.currency) then Declined
     else if is_closed books (request_key f) then Declined
-    else if is_earlier (day_of f.t5f24) (day_of f.paid.t9a) then Expired
+    else if is_earlier (date_of_digits f.t5f24) (date_of_digits f.paid.t9a) then Expired
     else if pin_is_wrong keys.pin account.pin account.pan f.tdf11 then WrongPin
-    else if int_lt (pos account.balance -ℤ pos (taken account.pan books)) (pos (number_in f.paid.t9f02)) then NoFunds
+    else if int_lt (pos account.balance -ℤ pos (taken_in_all account.pan books)) (pos (number_in f.paid.t9f02)) then NoFunds
     else Approved
 
 -- the decision on a presentment
@@ -116,16 +116,16 @@ reversal_code books f = (if is_booked books (reversal_key f) then Declined else 
 
 -- what a reply says: the decision, the issuer authentication data where the request was genuine, and the
 -- scripts
-pub record Said : Type 0 where
+pub record ReplySaid : Type 0 where
   pub code : Code
   pub auth : Option (List ℕ)
   pub scripts : List ℕ
 
 -- a reply with the code alone
-abbrev pub plain : Code → Said
-plain code = record { code = code; auth = None; scripts = [] }
+abbrev pub code_alone : Code → ReplySaid
+code_alone code = record { code = code; auth = None; scripts = [] }
 
-abbrev pub said_bytes : Said → List ℕ
+abbrev pub said_bytes : ReplySaid → List ℕ
 said_bytes said = reply_bytes (code_bytes said.code) said.auth said.scripts
 
 -- a reply to this account number carried issuer authentication data
@@ -149,29 +149,29 @@ abbrev pub response_under : List ℕ → AccountData → RequestData → Code �
 response_under session account f code = response_by account.arpc account.status session f.paid.t9f26 code
 
 -- the same under the card's key
-abbrev pub response_of : HostKeys → AccountData → RequestData → Code → List ℕ
-response_of keys account f code = response_under (session_of keys.ac (request_key f)) account f code
+abbrev pub keyed_response : HostKeys → AccountData → RequestData → Code → List ℕ
+keyed_response keys account f code = response_under (session_of keys.ac (request_key f)) account f code
 
 -- the reply to a genuine request with this decision
-abbrev pub online_reply : HostKeys → AccountData → Books → RequestData → Code → Said
-online_reply keys account books f code = record { code = code; auth = Some (response_of keys account f code); scripts = scripts_for keys account books f }
+abbrev pub online_reply : HostKeys → AccountData → Books → RequestData → Code → ReplySaid
+online_reply keys account books f code = record { code = code; auth = Some (keyed_response keys account f code); scripts = scripts_for keys account books f }
 
 -- the reply to the first message of its kind and transaction
-abbrev pub request_reply : HostKeys → Option AccountData → Books → RequestData → Said
-request_reply keys None books f = plain UnknownAccount
+abbrev pub request_reply : HostKeys → Option AccountData → Books → RequestData → ReplySaid
+request_reply keys None books f = code_alone UnknownAccount
 request_reply keys (Some account) books f =
-    if request_is_genuine keys f then online_reply keys account books f (request_code keys account books f) else plain Declined
+    if request_is_genuine keys f then online_reply keys account books f (request_code keys account books f) else code_alone Declined
 
-abbrev pub present_reply : HostKeys → Option AccountData → Books → PresentData → Said
-present_reply keys None books f = plain UnknownAccount
-present_reply keys (Some account) books f = plain (present_code keys account books f)
+abbrev pub present_reply : HostKeys → Option AccountData → Books → PresentData → ReplySaid
+present_reply keys None books f = code_alone UnknownAccount
+present_reply keys (Some account) books f = code_alone (present_code keys account books f)
 
-abbrev pub reversal_reply : Option AccountData → Books → ReversalFields → Said
-reversal_reply None books f = plain UnknownAccount
-reversal_reply (Some account) books f = plain (reversal_code books f)
+abbrev pub reversal_reply : Option AccountData → Books → ReversalFields → ReplySaid
+reversal_reply None books f = code_alone UnknownAccount
+reversal_reply (Some account) books f = code_alone (reversal_code books f)
 
 -- a message and what was said to it, as it is kept
-abbrev pub kept_with : Key → ℕ → List ℕ → Said → Kept
+abbrev pub kept_with : Key → ℕ → List ℕ → ReplySaid → KeptCall
 kept_with key amount message said = record {
   key = key;
   amount = amount;
@@ -181,27 +181,27 @@ kept_with key amount message said = record {
   reply = said_bytes said;
 }
 
-abbrev pub new_request : HostKeys → List AccountData → Books → List ℕ → RequestData → Kept
-new_request keys accounts books message f = kept_with (request_key f) (number_in f.paid.t9f02) message (request_reply keys (account_of f.named.pan accounts) books f)
+abbrev pub new_request : HostKeys → List AccountData → Books → List ℕ → RequestData → KeptCall
+new_request keys accounts books message f = kept_with (request_key f) (number_in f.paid.t9f02) message (request_reply keys (account_with_pan f.named.pan accounts) books f)
 
-abbrev pub new_present : HostKeys → List AccountData → Books → List ℕ → PresentData → Kept
-new_present keys accounts books message f = kept_with (present_key f) (number_in f.paid.t9f02) message (present_reply keys (account_of f.named.pan accounts) books f)
+abbrev pub new_present : HostKeys → List AccountData → Books → List ℕ → PresentData → KeptCall
+new_present keys accounts books message f = kept_with (present_key f) (number_in f.paid.t9f02) message (present_reply keys (account_with_pan f.named.pan accounts) books f)
 
-abbrev pub new_reversal : List AccountData → Books → List ℕ → ReversalFields → Kept
-new_reversal accounts books message f = kept_with (reversal_key f) (number_in f.t9f02) message (reversal_reply (account_of f.pan accounts) books f)
+abbrev pub new_reversal : List AccountData → Books → List ℕ → ReversalFields → KeptCall
+new_reversal accounts books message f = kept_with (reversal_key f) (number_in f.t9f02) message (reversal_reply (account_with_pan f.pan accounts) books f)
 
 -- the kept reply again, where a message of this kind and transaction was kept with these bytes; 05 where
 -- it had others; else the reply to the new one
-abbrev pub again_or : Option Kept → List ℕ → List ℕ → List ℕ
+abbrev pub again_or : Option KeptCall → List ℕ → List ℕ → List ℕ
 again_or None message reply = reply
-again_or (Some kept) message reply = (if bytes_eq kept.message message then kept.reply else said_bytes (plain Declined))
+again_or (Some kept) message reply = (if bytes_eq kept.message message then kept.reply else said_bytes (code_alone Declined))
 
-abbrev pub reply_in : HostKeys → List AccountData → Books → List ℕ → Result Incoming MessageFault → List ℕ
-reply_in keys accounts books message (Err fault) = said_bytes (plain Declined)
-reply_in keys accounts books message (Ok (Request f)) = again_or (kept_at (request_key f) books.requests) message (new_request keys accounts books message f).reply
-reply_in keys accounts books message (Ok (Present f)) = again_or (kept_at (present_key f) books.presentments) message (new_present keys accounts books message f).reply
-reply_in keys accounts books message (Ok (Reverse f)) = again_or (kept_at (reversal_key f) books.reversals) message (new_reversal accounts books message f).reply
+abbrev pub reply_to_message : HostKeys → List AccountData → Books → List ℕ → Result Incoming MessageFault → List ℕ
+reply_to_message keys accounts books message (Err fault) = said_bytes (code_alone Declined)
+reply_to_message keys accounts books message (Ok (Request f)) = again_or (kept_at (request_key f) books.requests) message (new_request keys accounts books message f).reply
+reply_to_message keys accounts books message (Ok (Present f)) = again_or (kept_at (present_key f) books.presentments) message (new_present keys accounts books message f).reply
+reply_to_message keys accounts books message (Ok (Reverse f)) = again_or (kept_at (reversal_key f) books.reversals) message (new_reversal accounts books message f).reply
 
 -- the reply to a message behind those that were kept
 unfoldable pub reply_to : HostKeys → List AccountData → Books → List ℕ → List ℕ
-reply_to keys accounts books message = reply_in keys accounts books message (message_of message)
+reply_to keys accounts books message = reply_to_message keys accounts books message (message_of message)

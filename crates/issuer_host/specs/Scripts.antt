@@ -15,24 +15,24 @@ use Rattle.script_words.specs.declared.script.Ordered.{Ordered}
 use Rattle.issuer_host.specs.declared.script.ScriptKeys.{ScriptKeys}
 
 -- class, instruction, P1 and P2 (Book 3 section 6.5; the data objects of PUT DATA are this project's own)
-abbrev pub header_of : Word → List ℕ
-header_of Block = 0x84 ∷ 0x1E ∷ 0x00 ∷ 0x00 ∷ []
-header_of Unblock = 0x84 ∷ 0x18 ∷ 0x00 ∷ 0x00 ∷ []
-header_of CardBlock = 0x84 ∷ 0x16 ∷ 0x00 ∷ 0x00 ∷ []
-header_of PinUnblock = 0x84 ∷ 0x24 ∷ 0x00 ∷ 0x00 ∷ []
-header_of (Pin digits) = 0x84 ∷ 0x24 ∷ 0x00 ∷ 0x02 ∷ []
-header_of (Count limit) = 0x04 ∷ 0xDA ∷ 0xDF ∷ 0x01 ∷ []
-header_of (Amount limit) = 0x04 ∷ 0xDA ∷ 0xDF ∷ 0x02 ∷ []
+abbrev pub script_header : Word → List ℕ
+script_header Block = 0x84 ∷ 0x1E ∷ 0x00 ∷ 0x00 ∷ []
+script_header Unblock = 0x84 ∷ 0x18 ∷ 0x00 ∷ 0x00 ∷ []
+script_header CardBlock = 0x84 ∷ 0x16 ∷ 0x00 ∷ 0x00 ∷ []
+script_header PinUnblock = 0x84 ∷ 0x24 ∷ 0x00 ∷ 0x00 ∷ []
+script_header (Pin digits) = 0x84 ∷ 0x24 ∷ 0x00 ∷ 0x02 ∷ []
+script_header (Count limit) = 0x04 ∷ 0xDA ∷ 0xDF ∷ 0x01 ∷ []
+script_header (Amount limit) = 0x04 ∷ 0xDA ∷ 0xDF ∷ 0x02 ∷ []
 
 -- the data before the message authentication code: a PIN's plain block is enciphered
-abbrev pub data_of : ScriptKeys → Word → List ℕ
-data_of keys Block = []
-data_of keys Unblock = []
-data_of keys CardBlock = []
-data_of keys PinUnblock = []
-data_of keys (Pin digits) = tdes keys.enc (block_of 2 digits)
-data_of keys (Count limit) = limit ∷ []
-data_of keys (Amount limit) = numeric 6 limit
+abbrev pub script_command_data : ScriptKeys → Word → List ℕ
+script_command_data keys Block = []
+script_command_data keys Unblock = []
+script_command_data keys CardBlock = []
+script_command_data keys PinUnblock = []
+script_command_data keys (Pin digits) = tdes keys.enc (block_of 2 digits)
+script_command_data keys (Count limit) = limit ∷ []
+script_command_data keys (Amount limit) = numeric 6 limit
 
 -- the code, whose last byte is made wrong on purpose
 abbrev pub mac_bytes : Bool → List ℕ → List ℕ
@@ -41,17 +41,17 @@ mac_bytes false mac = mac
 
 -- the message authentication code of a command
 abbrev pub mac_of : ScriptKeys → Word → List ℕ
-mac_of keys word = script_mac_of keys.mac (header_of word) keys.counter keys.cryptogram (data_of keys word)
+mac_of keys word = script_mac_of keys.mac (script_header word) keys.counter keys.cryptogram (script_command_data keys word)
 
 -- a command: header, length, data and code
-abbrev pub command_bytes : ScriptKeys → Ordered → List ℕ
-command_bytes keys order =
-    header_of order.word
-    ++ ((length (data_of keys order.word) + 8) ∷ (data_of keys order.word ++ mac_bytes order.bad (mac_of keys order.word)))
+abbrev pub script_command_bytes : ScriptKeys → Ordered → List ℕ
+script_command_bytes keys order =
+    script_header order.word
+    ++ ((length (script_command_data keys order.word) + 8) ∷ (script_command_data keys order.word ++ mac_bytes order.bad (mac_of keys order.word)))
 
 -- the same as a data object
 unfoldable pub order_bytes : ScriptKeys → Ordered → List ℕ
-order_bytes keys order = written 0x86 (command_bytes keys order)
+order_bytes keys order = written 0x86 (script_command_bytes keys order)
 
 -- the script's identifier as a data object
 abbrev pub identifier_bytes : Option (List ℕ) → List ℕ

@@ -5,7 +5,7 @@ ghost use Rattle.std.specs.Str.{bytes_eq};
 ghost use Rattle.emv_dict.specs.Settings.{most_amount};
 ghost use Rattle.host_ledger.specs.Accounts.{RefusesAccounts};
 ghost use Rattle.issuer_host.specs.Account.{IsAccount};
-ghost use Rattle.issuer_host.specs.Holds.{place_in, account_in, flag_at, with_flag, opening};
+ghost use Rattle.issuer_host.specs.Holds.{account_place, account_in, flag_at, with_flag, opening_balance};
 ghost use Rattle.std.specs.Prelude.{replicate, false};
 
 use crate::account::Account;
@@ -16,7 +16,7 @@ use std::alloc::{AllocError, Global};
 /// The account numbers with their opening balances.
 pub fn openings(alloc: Global, accounts: &[Account]) -> Result<Vec<(Digits, u64)>, AllocError>
     requires { All IsAccount accounts.now }
-    ensures value { IfOk result (λ openings. openings.items ≡ map opening accounts.now) }
+    ensures value { IfOk result (λ openings. openings.items ≡ map opening_balance accounts.now) }
     ensures small { IfOk result (λ openings. All (λ account. account.1 ≤ most_amount) openings.items) }
 {
     let mut openings = Vec::new(alloc);
@@ -39,7 +39,7 @@ pub fn none_served(alloc: Global, accounts: &[Account]) -> Result<Vec<bool>, All
 
 /// Why no host is made where memory is wanting: a repeat comes first, wherever memory ended.
 pub fn without_memory(accounts: &[Account]) -> LedgerFault
-    ensures { RefusesAccounts (map opening accounts.now) result }
+    ensures { RefusesAccounts (map opening_balance accounts.now) result }
 {
     for place in 0..accounts.len() {
         let account = &accounts[place];
@@ -59,7 +59,7 @@ fn has_pan(accounts: &[Account], pan: &Digits) -> bool
 
 /// The place of the account of an account number.
 pub fn place_of(accounts: &[Account], pan: &Digits) -> Option<usize>
-    ensures { result ≡ place_in pan.now accounts.now }
+    ensures { result ≡ account_place pan.now accounts.now }
 {
     for (place, account) in accounts.iter().enumerate() {
         if *pan == account.pan {

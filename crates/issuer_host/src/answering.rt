@@ -2,7 +2,7 @@
 ghost use Rattle.std.specs.Prelude.{◌≡◌, true};
 ghost use Rattle.std.specs.Option.{is_some};
 ghost use Rattle.emv_dict.specs.Bcd.{number_in};
-ghost use Rattle.issuer_host.specs.Balance.{account_of};
+ghost use Rattle.issuer_host.specs.Balance.{account_with_pan};
 ghost use Rattle.issuer_host.specs.Code.{is_approved};
 ghost use Rattle.issuer_host.specs.Holds.{Holds};
 ghost use Rattle.issuer_host.specs.Records.{is_open};
@@ -27,9 +27,9 @@ pub fn reply_to_request(
     out: &mut Message,
 ) -> Answered
     requires holds { Holds accounts.now records.now served.now }
-    ensures bytes { out.new.items ≡ said_bytes (spec.request_reply keys.now (account_of fields.now.named.pan accounts.now) records.now.books fields.now) }
-    ensures code { result.code ≡ (spec.request_reply keys.now (account_of fields.now.named.pan accounts.now) records.now.books fields.now).code }
-    ensures online { result.online ≡ is_some (spec.request_reply keys.now (account_of fields.now.named.pan accounts.now) records.now.books fields.now).auth }
+    ensures bytes { out.new.items ≡ said_bytes (spec.request_reply keys.now (account_with_pan fields.now.named.pan accounts.now) records.now.books fields.now) }
+    ensures code { result.code ≡ (spec.request_reply keys.now (account_with_pan fields.now.named.pan accounts.now) records.now.books fields.now).code }
+    ensures online { result.online ≡ is_some (spec.request_reply keys.now (account_with_pan fields.now.named.pan accounts.now) records.now.books fields.now).auth }
     ensures held { is_approved result.code ≡ true → is_open records.now (key_of_request fields.now) (number_in fields.now.paid.t9f02) ≡ true }
 {
     let place = place_of(accounts, &fields.named.pan);
@@ -48,9 +48,9 @@ pub fn reply_to_presentment(
     out: &mut Message,
 ) -> Answered
     requires key { key.now ≡ key_of_present fields.now }
-    ensures bytes { out.new.items ≡ said_bytes (spec.present_reply keys.now (account_of fields.now.named.pan accounts.now) records.now.books fields.now) }
-    ensures code { result.code ≡ (spec.present_reply keys.now (account_of fields.now.named.pan accounts.now) records.now.books fields.now).code }
-    ensures online { result.online ≡ is_some (spec.present_reply keys.now (account_of fields.now.named.pan accounts.now) records.now.books fields.now).auth }
+    ensures bytes { out.new.items ≡ said_bytes (spec.present_reply keys.now (account_with_pan fields.now.named.pan accounts.now) records.now.books fields.now) }
+    ensures code { result.code ≡ (spec.present_reply keys.now (account_with_pan fields.now.named.pan accounts.now) records.now.books fields.now).code }
+    ensures online { result.online ≡ is_some (spec.present_reply keys.now (account_with_pan fields.now.named.pan accounts.now) records.now.books fields.now).auth }
 {
     let place = place_of(accounts, &fields.named.pan);
     let account = account_at(accounts, place);
@@ -66,9 +66,9 @@ pub fn reply_to_reversal(
     out: &mut Message,
 ) -> Answered
     requires key { key.now ≡ key_of_reversal fields.now }
-    ensures bytes { out.new.items ≡ said_bytes (spec.reversal_reply (account_of fields.now.pan accounts.now) records.now.books fields.now) }
-    ensures code { result.code ≡ (spec.reversal_reply (account_of fields.now.pan accounts.now) records.now.books fields.now).code }
-    ensures online { result.online ≡ is_some (spec.reversal_reply (account_of fields.now.pan accounts.now) records.now.books fields.now).auth }
+    ensures bytes { out.new.items ≡ said_bytes (spec.reversal_reply (account_with_pan fields.now.pan accounts.now) records.now.books fields.now) }
+    ensures code { result.code ≡ (spec.reversal_reply (account_with_pan fields.now.pan accounts.now) records.now.books fields.now).code }
+    ensures online { result.online ≡ is_some (spec.reversal_reply (account_with_pan fields.now.pan accounts.now) records.now.books fields.now).auth }
 {
     let place = place_of(accounts, &fields.pan);
     let account = account_at(accounts, place);

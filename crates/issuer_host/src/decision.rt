@@ -2,10 +2,10 @@
 ghost use Rattle.std.specs.Prelude.{◌≡◌, ◌≤◌, ◌-ℤ◌, pos, length, Some};
 ghost use Rattle.std.specs.Str.{bytes_eq};
 ghost use Rattle.issuer_host.specs.Account.{IsAccount};
-ghost use Rattle.issuer_host.specs.Balance.{taken};
+ghost use Rattle.issuer_host.specs.Balance.{taken_in_all};
 ghost use Rattle.issuer_host.specs.Records.{balance_left};
 ghost use Rattle.issuer_host.specs.Reply as spec;
-ghost use Rattle.issuer_host.specs.Reply.{request_key as key_of_request, present_key as key_of_present, reversal_key as key_of_reversal, session_of, ac_fields_of, day_of, pin_is_wrong as pin_spec};
+ghost use Rattle.issuer_host.specs.Reply.{request_key as key_of_request, present_key as key_of_present, reversal_key as key_of_reversal, session_of, ac_fields_of, date_of_digits, pin_is_wrong as pin_spec};
 
 use crate::account::Account;
 use crate::code::Code;
@@ -96,7 +96,7 @@ pub fn is_made_under(session: &Key16, paid: &Paid, t9f10: &[u8]) -> bool
 }
 
 /// Whether 9F26 is the card's cryptogram of the presentment's fields.
-fn present_is_genuine(keys: &HostKeys, key: &Key, fields: &PresentFields) -> bool
+pub fn present_is_genuine(keys: &HostKeys, key: &Key, fields: &PresentFields) -> bool
     requires { key.now ≡ key_of_present fields.now }
     ensures { result ≡ spec.present_is_genuine keys.now fields.now }
 {
@@ -104,8 +104,8 @@ fn present_is_genuine(keys: &HostKeys, key: &Key, fields: &PresentFields) -> boo
 }
 
 /// The day of three bytes of digits, which need not be one of the calendar.
-fn day(bytes: [u8; 3]) -> Date
-    ensures { result ≡ day_of bytes }
+pub fn day(bytes: [u8; 3]) -> Date
+    ensures { result ≡ date_of_digits bytes }
 {
     let [year, month, day] = bytes;
     let digits = u16::from(two_digit_number(year));
@@ -121,7 +121,7 @@ fn day(bytes: [u8; 3]) -> Date
 }
 
 /// Whether the terminal sent a PIN block that is not the account's.
-fn pin_is_wrong(key: &Key16, account: &Account, block: Option<[u8; 8]>) -> bool
+pub fn pin_is_wrong(key: &Key16, account: &Account, block: Option<[u8; 8]>) -> bool
     requires { IsAccount account.now }
     ensures { result ≡ pin_spec key.now account.now.pin account.now.pan block }
 {
@@ -145,7 +145,7 @@ pub fn request_code(
 ) -> Code
     requires account { IsAccount account.now }
     requires key { key.now ≡ key_of_request fields.now }
-    requires known { balance_left records.now account.now.pan ≡ Some (pos account.now.balance -ℤ pos (taken account.now.pan records.now.books)) }
+    requires known { balance_left records.now account.now.pan ≡ Some (pos account.now.balance -ℤ pos (taken_in_all account.now.pan records.now.books)) }
     ensures { result ≡ spec.request_code keys.now account.now records.now.books fields.now }
 {
     if account.blocked {

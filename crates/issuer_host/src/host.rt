@@ -3,17 +3,18 @@ ghost use Rattle.std.specs.Prelude.{◌≡◌, ℕ, ◌≤◌, ◌-ℤ◌, pos, 
 ghost use Rattle.std.specs.List.{All};
 ghost use Rattle.emv_dict.specs.Bcd.{number_in};
 ghost use Rattle.emv_dict.specs.Settings.{most_amount};
-ghost use Rattle.auth_message.specs.Accepted.{AreDigits};
+ghost use Rattle.auth_message.specs.Accepted.{AreDigitBytes};
 ghost use Rattle.auth_message.specs.Message.{message_of};
 ghost use Rattle.auth_message.specs.Whole.{IsReply};
 ghost use Rattle.auth_message.specs.declared.message.Incoming.TheVariants.{Request, Present, Reverse};
 ghost use Rattle.host_ledger.specs.Accounts.{RefusesAccounts, AreDistinctBelow};
 ghost use Rattle.issuer_host.specs.Account.{IsAccount};
-ghost use Rattle.issuer_host.specs.Balance.{balance_in, account_of};
+ghost use Rattle.issuer_host.specs.Balance.{balance_in, account_with_pan};
 ghost use Rattle.issuer_host.specs.Books.{kept_at};
-ghost use Rattle.issuer_host.specs.History.{is_new, HostStands, host_reply, balance_after, kept_in};
-ghost use Rattle.issuer_host.specs.Holds.{place_in, opening};
-ghost use Rattle.issuer_host.specs.Reply.{reply_in, request_key as key_of_request, present_key as key_of_present, reversal_key as key_of_reversal};
+ghost use Rattle.issuer_host.specs.History.{is_new_message, HostStands, host_reply, balance_after, kept_in};
+ghost use Rattle.issuer_host.specs.Holds.{account_place, opening_balance};
+ghost use Rattle.issuer_host.specs.Reasons.{reason_in};
+ghost use Rattle.issuer_host.specs.Reply.{reply_to_message, request_key as key_of_request, present_key as key_of_present, reversal_key as key_of_reversal};
 
 use crate::account::Account;
 use crate::accounts::{none_served, openings, place_of, set_flag, without_memory};
@@ -22,6 +23,8 @@ use crate::code::Code;
 use crate::decision::{present_key, request_key, reversal_key};
 use crate::keeping::{again, kept};
 use crate::keys::HostKeys;
+use crate::reason::Reason;
+use crate::reasoning::reason_of;
 use crate::records::Records;
 use crate::reply::plain;
 use auth_message::{Incoming, Message, PresentFields, RequestFields, ReversalFields, read_message};
@@ -66,8 +69,8 @@ impl<'a> Host<'a> {
         ensures stands { IfOk result (λ host. HostStands host []) }
         ensures keys { IfOk result (λ host. host.keys ≡ keys) }
         ensures accounts { IfOk result (λ host. host.accounts ≡ accounts.now) }
-        ensures distinct { OnOk result (AreDistinctBelow (map opening accounts.now) (length accounts.now)) }
-        ensures refused { IfErr result (RefusesAccounts (map opening accounts.now)) }
+        ensures distinct { OnOk result (AreDistinctBelow (map opening_balance accounts.now) (length accounts.now)) }
+        ensures refused { IfErr result (RefusesAccounts (map opening_balance accounts.now)) }
     {
         let Ok(openings) = openings(alloc, accounts) else {
             return Err(without_memory(accounts));
@@ -102,7 +105,7 @@ impl<'a> Host<'a> {
         ensures accounts { self.new.accounts ≡ self.old.accounts }
         ensures err { OnErr result (self.new ≡ self.old) }
         // Only the first message of its kind and transaction can want memory.
-        ensures memory { OnErr result (is_new self.old.books (message_of message.now) ≡ true) }
+        ensures memory { OnErr result (is_new_message self.old.books (message_of message.now) ≡ true) }
     {
         let incoming = match read_message(message) {
             Ok(incoming) => incoming,
@@ -128,6 +131,13 @@ impl<'a> Host<'a> {
         self.records.balance(pan)
     }
 
+    /// Why the host would reply to this message as it does, if it came next.
+    pub fn reason(&self, message: &[u8]) -> Reason
+        ensures exact { result ≡ reason_in self.now.keys self.now.accounts self.now.books message.now (message_of message.now) }
+    {
+        reason_of(&self.keys, self.accounts, &self.records, message)
+    }
+
     /// Answers a request.
     fn answer_request(
         &mut self,
@@ -135,8 +145,8 @@ impl<'a> Host<'a> {
         fields: &RequestFields,
         out: &mut Message,
     ) -> Result<(), AllocError>
-        requires { AreDigits fields.now.paid.t9f02 }
-        ensures reply { OnOk result (out.new.items ≡ reply_in self.old.keys self.old.accounts self.old.books message.now (Ok (Request fields.now))) }
+        requires { AreDigitBytes fields.now.paid.t9f02 }
+        ensures reply { OnOk result (out.new.items ≡ reply_to_message self.old.keys self.old.accounts self.old.books message.now (Ok (Request fields.now))) }
         ensures books { OnOk result (self.new.books ≡ kept_in self.old.keys self.old.accounts self.old.books message.now (Ok (Request fields.now))) }
         ensures keys { self.new.keys ≡ self.old.keys }
         ensures accounts { self.new.accounts ≡ self.old.accounts }
@@ -179,8 +189,8 @@ impl<'a> Host<'a> {
         fields: &PresentFields,
         out: &mut Message,
     ) -> Result<(), AllocError>
-        requires { AreDigits fields.now.paid.t9f02 }
-        ensures reply { OnOk result (out.new.items ≡ reply_in self.old.keys self.old.accounts self.old.books message.now (Ok (Present fields.now))) }
+        requires { AreDigitBytes fields.now.paid.t9f02 }
+        ensures reply { OnOk result (out.new.items ≡ reply_to_message self.old.keys self.old.accounts self.old.books message.now (Ok (Present fields.now))) }
         ensures books { OnOk result (self.new.books ≡ kept_in self.old.keys self.old.accounts self.old.books message.now (Ok (Present fields.now))) }
         ensures keys { self.new.keys ≡ self.old.keys }
         ensures accounts { self.new.accounts ≡ self.old.accounts }
@@ -218,8 +228,8 @@ impl<'a> Host<'a> {
         fields: &ReversalFields,
         out: &mut Message,
     ) -> Result<(), AllocError>
-        requires { AreDigits fields.now.t9f02 }
-        ensures reply { OnOk result (out.new.items ≡ reply_in self.old.keys self.old.accounts self.old.books message.now (Ok (Reverse fields.now))) }
+        requires { AreDigitBytes fields.now.t9f02 }
+        ensures reply { OnOk result (out.new.items ≡ reply_to_message self.old.keys self.old.accounts self.old.books message.now (Ok (Reverse fields.now))) }
         ensures books { OnOk result (self.new.books ≡ kept_in self.old.keys self.old.accounts self.old.books message.now (Ok (Reverse fields.now))) }
         ensures keys { self.new.keys ≡ self.old.keys }
         ensures accounts { self.new.accounts ≡ self.old.accounts }
@@ -241,7 +251,7 @@ impl<'a> Host<'a> {
 /// The number of an amount's twelve digits.
 #[tactic(auto, using(crate::proofs::Amounts::amount_small))]
 fn amount(field: [u8; 6]) -> u64
-    requires { AreDigits field }
+    requires { AreDigitBytes field }
     ensures value { result ≡ number_in field }
     ensures small { result ≤ most_amount }
 {

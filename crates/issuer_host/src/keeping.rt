@@ -1,9 +1,9 @@
 //! The messages of one kind that the host keeps, by their transactions.
 ghost use Rattle.std.specs.Prelude.{◌≡◌, [], ◌∷◌, ◌++◌, List, None, option_map, IfOk, OnOk, OnErr, if◌then◌else◌};
-ghost use Rattle.issuer_host.specs.Books.{Kept, kept_at};
+ghost use Rattle.issuer_host.specs.Books.{KeptCall, kept_at};
 ghost use Rattle.std.specs.Str.{bytes_eq};
 ghost use Rattle.issuer_host.specs.Keeping.{kept_message};
-ghost use Rattle.issuer_host.specs.Reply.{said_bytes, plain as plain_said};
+ghost use Rattle.issuer_host.specs.Reply.{said_bytes, code_alone as plain_said};
 ghost use Rattle.issuer_host.specs.declared.code.Code.TheVariants.{Declined};
 
 use crate::code::Code;
@@ -69,12 +69,12 @@ pub struct Keeping {
 
 impl Model for Keeping {
     ghost use Rattle.std.specs.Prelude.{List, map};
-    ghost use Rattle.issuer_host.specs.Books.{Kept};
-    ghost use Rattle.issuer_host.specs.Keeping.{kept_entry};
+    ghost use Rattle.issuer_host.specs.Books.{KeptCall};
+    ghost use Rattle.issuer_host.specs.Keeping.{seen_kept_call};
 
-    ghost Value = { List Kept };
+    ghost Value = { List KeptCall };
 
-    ghost view = { λ k. map kept_entry k.table.entries };
+    ghost view = { λ k. map seen_kept_call k.table.entries };
 }
 
 impl Keeping {
@@ -108,7 +108,7 @@ impl Keeping {
 
     /// Forgets the message that was kept last.
     pub fn forget_last(&mut self)
-        ensures { (front : List Kept) (last : Kept) → self.old ≡ front ++ last ∷ [] → self.new ≡ front }
+        ensures { (front : List KeptCall) (last : KeptCall) → self.old ≡ front ++ last ∷ [] → self.new ≡ front }
     {
         let _last = self.table.pop();
     }

@@ -2,11 +2,11 @@
 ghost use Rattle.std.specs.Prelude.{◌≡◌, ◌≤◌, ◌-ℤ◌, ◌≤ℤ◌, pos, [], ◌∷◌, ◌++◌, None, Some, IsTrue, IsSome, IfOk, IfErr, OnOk, OnErr, option_map, true, false, not, int_lt, length};
 ghost use Rattle.std.specs.List.{All};
 ghost use Rattle.emv_dict.specs.Settings.{most_amount};
-ghost use Rattle.host_ledger.specs.Accounts.{RefusesAccounts, AreDistinctBelow, opening_of, balance_of, Keeps};
+ghost use Rattle.host_ledger.specs.Accounts.{RefusesAccounts, AreDistinctBelow, opening_balance_of, balance_of, KeepsEntry};
 ghost use Rattle.host_ledger.specs.Entries.{entry_at};
 ghost use Rattle.host_ledger.specs.Refusals.{hold_refusal, settle_refusal};
 ghost use Rattle.host_ledger.specs.declared.entry.EntryState.TheVariants.{Held, Booked, Released};
-ghost use Rattle.issuer_host.specs.Balance.{taken, is_booked, is_released};
+ghost use Rattle.issuer_host.specs.Balance.{taken_in_all, is_booked, is_released};
 ghost use Rattle.host_ledger.specs.declared.key.Key.{Key};
 ghost use Rattle.issuer_host.specs.Books.{no_books, kept_at, was_approved};
 ghost use Rattle.issuer_host.specs.Reply.{is_closed};
@@ -32,7 +32,7 @@ pub struct Records {
 }
 
 impl Model for Records {
-    ghost use Rattle.issuer_host.specs.Records.{RecordsData, Agrees};
+    ghost use Rattle.issuer_host.specs.Records.{RecordsData, LedgerAgrees};
 
     ghost Value = { RecordsData };
 
@@ -41,7 +41,7 @@ impl Model for Records {
       books = record { requests = r.requests; presentments = r.presentments; reversals = r.reversals };
     } };
 
-    ghost invariant = { λ r. Agrees (record { requests = r.requests; presentments = r.presentments; reversals = r.reversals }) r.ledger.entries };
+    ghost invariant = { λ r. LedgerAgrees (record { requests = r.requests; presentments = r.presentments; reversals = r.reversals }) r.ledger.entries };
 }
 
 impl Records {
@@ -112,8 +112,8 @@ impl Records {
 
     /// Whether the account's balance covers an amount.
     pub fn covers(&self, account: &Account, amount: u64) -> bool
-        requires { balance_left self.now account.now.pan ≡ Some (pos account.now.balance -ℤ pos (taken account.now.pan self.now.books)) }
-        ensures { result ≡ not (int_lt (pos account.now.balance -ℤ pos (taken account.now.pan self.now.books)) (pos amount)) }
+        requires { balance_left self.now account.now.pan ≡ Some (pos account.now.balance -ℤ pos (taken_in_all account.now.pan self.now.books)) }
+        ensures { result ≡ not (int_lt (pos account.now.balance -ℤ pos (taken_in_all account.now.pan self.now.books)) (pos amount)) }
     {
         match self.balance(&account.pan) {
             Some(balance) => balance >= i128::from(amount),
@@ -195,7 +195,7 @@ impl Records {
 fn hold(ledger: &mut Ledger, key: &Key, amount: u64) -> Result<(), AllocError>
     requires small { amount ≤ most_amount }
     requires taken { hold_refusal (balance_of key.now.pan ledger.old) (entry_at key.now ledger.old.entries) amount ≡ None }
-    ensures ok { OnOk result (Keeps (record { key = key.now; amount = amount; state = Held }) ledger.old ledger.new) }
+    ensures ok { OnOk result (KeepsEntry (record { key = key.now; amount = amount; state = Held }) ledger.old ledger.new) }
     ensures err { OnErr result (ledger.new ≡ ledger.old) }
 {
     match ledger.hold(key, amount) {
@@ -209,7 +209,7 @@ fn hold(ledger: &mut Ledger, key: &Key, amount: u64) -> Result<(), AllocError>
 fn book(ledger: &mut Ledger, key: &Key, amount: u64) -> Result<(), AllocError>
     requires small { amount ≤ most_amount }
     requires taken { settle_refusal (balance_of key.now.pan ledger.old) (entry_at key.now ledger.old.entries) ≡ None }
-    ensures ok { OnOk result (Keeps (record { key = key.now; amount = amount; state = Booked }) ledger.old ledger.new) }
+    ensures ok { OnOk result (KeepsEntry (record { key = key.now; amount = amount; state = Booked }) ledger.old ledger.new) }
     ensures err { OnErr result (ledger.new ≡ ledger.old) }
 {
     match ledger.book(key, amount) {
@@ -223,7 +223,7 @@ fn book(ledger: &mut Ledger, key: &Key, amount: u64) -> Result<(), AllocError>
 fn release(ledger: &mut Ledger, key: &Key, amount: u64) -> Result<(), AllocError>
     requires small { amount ≤ most_amount }
     requires taken { settle_refusal (balance_of key.now.pan ledger.old) (entry_at key.now ledger.old.entries) ≡ None }
-    ensures ok { OnOk result (Keeps (record { key = key.now; amount = amount; state = Released }) ledger.old ledger.new) }
+    ensures ok { OnOk result (KeepsEntry (record { key = key.now; amount = amount; state = Released }) ledger.old ledger.new) }
     ensures err { OnErr result (ledger.new ≡ ledger.old) }
 {
     match ledger.release(key, amount) {

@@ -3,10 +3,10 @@ ghost use Rattle.std.specs.Prelude.{◌≡◌, ◌≤◌, ◌-ℤ◌, pos, lengt
 ghost use Rattle.std.specs.Option.{is_some};
 ghost use Rattle.auth_message.specs.Reply.{AreScripts};
 ghost use Rattle.issuer_host.specs.Account.{IsAccount};
-ghost use Rattle.issuer_host.specs.Balance.{taken};
+ghost use Rattle.issuer_host.specs.Balance.{taken_in_all};
 ghost use Rattle.issuer_host.specs.Records.{balance_left};
 ghost use Rattle.issuer_host.specs.Reply as spec;
-ghost use Rattle.issuer_host.specs.Reply.{request_key as key_of_request, present_key as key_of_present, reversal_key as key_of_reversal, said_bytes, plain as plain_said, is_served, scripts_for, response_under};
+ghost use Rattle.issuer_host.specs.Reply.{request_key as key_of_request, present_key as key_of_present, reversal_key as key_of_reversal, said_bytes, code_alone as plain_said, is_served, scripts_for, response_under};
 
 use crate::account::Account;
 use crate::code::Code;
@@ -54,7 +54,7 @@ pub fn request_reply(
     out: &mut Message,
 ) -> Answered
     requires account { IfSome account (λ a. IsAccount a.now) }
-    requires known { IfSome account (λ a. balance_left records.now a.now.pan ≡ Some (pos a.now.balance -ℤ pos (taken a.now.pan records.now.books))) }
+    requires known { IfSome account (λ a. balance_left records.now a.now.pan ≡ Some (pos a.now.balance -ℤ pos (taken_in_all a.now.pan records.now.books))) }
     requires served { IfSome account (λ a. served ≡ is_served a.now.pan records.now.books) }
     ensures bytes { out.new.items ≡ said_bytes (spec.request_reply keys.now (option_map (λ a. a.now) account.entry) records.now.books fields.now) }
     ensures code { result.code ≡ (spec.request_reply keys.now (option_map (λ a. a.now) account.entry) records.now.books fields.now).code }

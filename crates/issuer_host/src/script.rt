@@ -9,7 +9,7 @@ ghost use Rattle.triple_des.specs.TripleDes.{tdes};
 ghost use Rattle.script_words.specs.MadeLength.{made_length, all_made_length, identifier_length, order_length, data_length, template_tag as tag_spec};
 ghost use Rattle.script_words.specs.Script.{IsScript};
 ghost use Rattle.script_words.specs.Spelling.{IsWord};
-ghost use Rattle.issuer_host.specs.Scripts.{header_of, data_of, mac_bytes, command_bytes, order_bytes, identifier_bytes, script_bytes, all_script_bytes};
+ghost use Rattle.issuer_host.specs.Scripts.{script_header, script_command_data, mac_bytes, script_command_bytes, order_bytes, identifier_bytes, script_bytes, all_script_bytes};
 
 use app_cryptogram::script_mac;
 use arrayvec::ArrayVec;
@@ -100,7 +100,7 @@ fn write_order(keys: &ScriptKeys, order: &Ordered, out: &mut ScriptBytes)
 /// A command: its header, the length of its data with the message authentication code, and both.
 fn command(keys: &ScriptKeys, order: &Ordered) -> ArrayVec<u8, 21>
     requires { IsWord order.now.word }
-    ensures bytes { result.items ≡ command_bytes keys.now order.now }
+    ensures bytes { result.items ≡ script_command_bytes keys.now order.now }
     ensures sized { length result.items ≡ 5 + data_length order.now.word + 8 }
 {
     let header = header(&order.word);
@@ -127,7 +127,7 @@ fn marked(bad: bool, code: [u8; 8]) -> [u8; 8]
 
 /// Class, instruction, P1 and P2 of a command (EMV 4.3 Book 3 section 6.5).
 fn header(word: &Word) -> [u8; 4]
-    ensures { result ≡ header_of word.now }
+    ensures { result ≡ script_header word.now }
 {
     match word {
         Word::Block => [0x84, 0x1E, 0x00, 0x00],
@@ -143,7 +143,7 @@ fn header(word: &Word) -> [u8; 4]
 /// The data of a command before the message authentication code.
 fn payload(keys: &ScriptKeys, word: &Word) -> ArrayVec<u8, 8>
     requires { IsWord word.now }
-    ensures bytes { result.items ≡ data_of keys.now word.now }
+    ensures bytes { result.items ≡ script_command_data keys.now word.now }
     ensures sized { length result.items ≡ data_length word.now }
     ensures short { data_length word.now ≤ 8 }
 {

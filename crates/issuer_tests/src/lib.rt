@@ -1,5 +1,5 @@
-//! Tests of the issuer's side below the host: orders, the ledger, messages and replies in both dialects,
-//! and their way over a link.
+//! Tests of the issuer's side: orders, the ledger, messages and replies in both dialects, their way over a
+//! link, and the reasons of the host's replies.
 #![tactic(auto)]
 
 #[cfg(test)]
@@ -18,3 +18,5 @@ mod links;
 mod messages;
 #[cfg(test)]
 mod orders;
+#[cfg(test)]
+mod reasons;

@@ -20,31 +20,31 @@ use Rattle.emv_dict.specs.declared.judged.Judged.{Judged}
 use Rattle.emv_dict.specs.declared.purchase.Logged.{Logged}
 use Rattle.emv_dict.specs.declared.verified.Verified.{Verified}
 use Rattle.kernel.proofs.Telling.{card_all, host_all, dialogue_all}
-use Rattle.kernel.specs.Course.{Standing, Rest, stands, by_progress, settled, card_step, cut_off, host_step}
-use Rattle.kernel.specs.Dialogue.{Trade, all_failed, left_script, scripts_behind, second, scripts_before, authentication, authentication_by, has_authentication, unable_online, kind_unable, reply_read, replied, is_offline_only, first_answered, first, analysis, risk, verification, restrictions, dialogue, decision, kind_for, kind_wanted}
-use Rattle.kernel.specs.Laws.{own_bits, BitsBelong}
+use Rattle.kernel.specs.StepsInTurn.{Standing, Rest, stands, by_progress, then_step, card_step, cut_off, host_step}
+use Rattle.kernel.specs.Dialogue.{TransactionData, all_failed, left_script, scripts_behind, second, scripts_before, issuer_authentication, authentication_by, has_authentication, unable_online, kind_unable, reply_read, replied, is_offline_only, first_answered, first, analysis, risk, verification, restrictions, dialogue, decision, kind_for, kind_wanted}
+use Rattle.kernel.specs.Laws.{bits_of_step, BitsBelong}
 use Rattle.kernel.specs.Reply.{Reply, CardSaid, CardGone, HostSaid, HostSilent, Over}
 use Rattle.kernel.specs.declared.stage.OnlineOutcome.{OnlineOutcome}
 use Rattle.kernel.specs.declared.stage.OnlineOutcome.TheVariants.{Replied, Unable}
-use Rattle.online_step.specs.Authenticate.{authenticated}
+use Rattle.online_step.specs.Authenticate.{authentication_step}
 use Rattle.restrictions.proofs.OwnBits.{restricted_own}
 use Rattle.restrictions.specs.Restricted.{restricted}
 use Rattle.risk_mgmt.proofs.OwnBits as risk_bits
 use Rattle.risk_mgmt.specs.Laws as risk_law
 use Rattle.risk_mgmt.specs.Risky.{risky}
 use Rattle.script_run.specs.Ran.{template_ran, no_script}
-use Rattle.terminal_state.specs.Marks.{Mark, tvr_of, bits_if, with_bits, union, is_whole, HasRead, HasRestricted, HasVerified, HasJudged, HasAnalysed, HasFirst, HasReply, WasUnable, HasAuthenticated, HasRunBefore, HasSecond, HasRunBehind}
-use Rattle.terminal_state.specs.Scripts.{templates, kept}
-use Rattle.terminal_state.specs.declared.moment.OnlineRequest.{OnlineRequest}
-use Rattle.terminal_state.specs.declared.moment.OnlineRequest.TheVariants.{Sent, NotSent}
+use Rattle.terminal_state.specs.StepResults.{StepResult, sets_tvr, bits_if, with_bits, union, ran_whole, HasRead, HasRestricted, HasVerified, HasJudged, HasAnalysed, HasFirst, HasReply, WasUnable, HasAuthenticated, HasRunBefore, HasSecond, HasRunBehind}
+use Rattle.terminal_state.specs.Scripts.{templates_of_tag, kept_host_reply}
+use Rattle.terminal_state.specs.declared.state_so_far.OnlineRequest.{OnlineRequest}
+use Rattle.terminal_state.specs.declared.state_so_far.OnlineRequest.TheVariants.{Sent, NotSent}
 
 -- a step's bits stand among these
 abbrev AreAmong : ℕ → Option ℕ → Type 0
 AreAmong own None = Unit {0}
 AreAmong own (Some bits) = (place : ℕ) → bit_at bits place ≤ bit_at own place
 
-abbrev AllOwn : List Mark → Type 0
-AllOwn marks = AllByRecursion (λ mark. AreAmong (own_bits mark) (tvr_of mark)) marks
+abbrev AllOwn : List StepResult → Type 0
+AllOwn steps_done = AllByRecursion (λ step_result. AreAmong (bits_of_step step_result) (sets_tvr step_result)) steps_done
 
 among : (bits own : ℕ) → bit_or bits own ≡ own → (place : ℕ) → bit_at bits place ≤ bit_at own place
 among bits own same place =
@@ -82,10 +82,10 @@ joined (Some bits) own set place found among earlier stands =
     of_either (bit_at set place) (bit_at bits place) (bit_at own place) _ found (bit_at-lt set place) (bit_at-lt own place) (among place)
     (bit_at_or set bits place) earlier stands
 
-belong : (marks : List Mark) (place : ℕ) → AllOwn marks → bit_at (union tvr_of marks) place ≡ 1 → list_any (λ mark. bit_at (own_bits mark) place == 1) marks ≡ true
+belong : (steps_done : List StepResult) (place : ℕ) → AllOwn steps_done → bit_at (union sets_tvr steps_done) place ≡ 1 → list_any (λ step_result. bit_at (bits_of_step step_result) place == 1) steps_done ≡ true
 belong [] place own stands = absurd (omega (arith, bit_at-zero place))
-belong (mark ∷ marks) place own stands =
-    joined (tvr_of mark) (own_bits mark) (union tvr_of marks) place (list_any (λ mark. bit_at (own_bits mark) place == 1) marks) own.0 (belong marks place own.1) stands
+belong (step_result ∷ steps_done) place own stands =
+    joined (sets_tvr step_result) (bits_of_step step_result) (union sets_tvr steps_done) place (list_any (λ step_result. bit_at (bits_of_step step_result) place == 1) steps_done) own.0 (belong steps_done place own.1) stands
 
 -- a step's value, where it has one
 abbrev Gives : {A : Type 0} → (A → Type 0) → Progress A → Type 0
@@ -93,16 +93,16 @@ Gives P (Wants command) = Unit {0}
 Gives P (Stopped cause) = Unit {0}
 Gives P (Done value rest) = P value
 
-module _ {A : Type 0} (P : A → Type 0) (step : Step) (marks : List Mark) (next : A → Rest Mark) (own : AllOwn marks)
-    (keeps : (value : A) → P value → (log : List Logged) (replies : List Reply) → AllOwn (next value log replies).marks) where
-  settle_own : (log : List Logged) (replies : List Reply) (wanted : List ℕ → Standing Mark) (progress : Progress A) → Gives P progress → ((command : List ℕ) → AllOwn (wanted command).marks)
-      → AllOwn (settled step marks next log replies wanted progress).marks
+module _ {A : Type 0} (P : A → Type 0) (step : Step) (steps_done : List StepResult) (next : A → Rest StepResult) (own : AllOwn steps_done)
+    (keeps : (value : A) → P value → (log : List Logged) (replies : List Reply) → AllOwn (next value log replies).steps_done) where
+  settle_own : (log : List Logged) (replies : List Reply) (wanted : List ℕ → Standing StepResult) (progress : Progress A) → Gives P progress → ((command : List ℕ) → AllOwn (wanted command).steps_done)
+      → AllOwn (then_step step steps_done next log replies wanted progress).steps_done
   settle_own log replies wanted (Wants command) gives wants = wants command
   settle_own log replies wanted (Stopped cause) gives wants = own
   settle_own log replies wanted (Done value rest) gives wants = keeps value gives log replies
 
   card_own : (cut : Step) (course : List (List ℕ) → Progress A) → ((answers : List (List ℕ)) → Gives P (course answers)) → (log : List Logged) (replies : List Reply)
-      → AllOwn (card_step (cut_off marks) cut step marks course next log replies).marks
+      → AllOwn (card_step (cut_off steps_done) cut step steps_done course next log replies).steps_done
   unfolding card_step
   card_own cut course gives log [] = settle_own log [] _ (course []) (gives []) (λ command. own)
   card_own cut course gives log (CardSaid answer now ∷ replies) =
@@ -112,141 +112,141 @@ module _ {A : Type 0} (P : A → Type 0) (step : Step) (marks : List Mark) (next
   card_own cut course gives log (HostSaid said ∷ replies) = settle_own log (HostSaid said ∷ replies) _ (course []) (gives []) (λ command. own)
   card_own cut course gives log (HostSilent ∷ replies) = settle_own log (HostSilent ∷ replies) _ (course []) (gives []) (λ command. own)
 
-abbrev Owns : Standing Mark → Type 0
-Owns s = AllOwn s.marks
+abbrev Owns : Standing StepResult → Type 0
+Owns s = AllOwn s.steps_done
 
-run_behind : (result : List ℕ) → AreAmong 0x0000000010 (tvr_of (HasRunBehind result))
-run_behind result = among_if (not (is_whole result)) (tvr_bit 5 5) 0x0000000010 refl
+run_behind : (result : List ℕ) → AreAmong 0x0000000010 (sets_tvr (HasRunBehind result))
+run_behind result = among_if (not (ran_whole result)) (tvr_bit 5 5) 0x0000000010 refl
 
-run_before : (result : List ℕ) → AreAmong 0x0000000020 (tvr_of (HasRunBefore result))
-run_before result = among_if (not (is_whole result)) (tvr_bit 5 6) 0x0000000020 refl
+run_before : (result : List ℕ) → AreAmong 0x0000000020 (sets_tvr (HasRunBefore result))
+run_before result = among_if (not (ran_whole result)) (tvr_bit 5 6) 0x0000000020 refl
 
-failed_own : (others : List (List ℕ)) (marks : List Mark) → AllOwn marks → AllOwn (all_failed others marks)
-failed_own [] marks own = own
-failed_own (template ∷ others) marks own = failed_own others (HasRunBehind no_script ∷ marks) (run_behind no_script, own)
+failed_own : (others : List (List ℕ)) (steps_done : List StepResult) → AllOwn steps_done → AllOwn (all_failed others steps_done)
+failed_own [] steps_done own = own
+failed_own (template ∷ others) steps_done own = failed_own others (HasRunBehind no_script ∷ steps_done) (run_behind no_script, own)
 
-left_own : (ending : Ending) (others : List (List ℕ)) (marks : List Mark) → AllOwn marks → (progress : Progress (List ℕ))
-    → Owns (by_progress (λ command. stands marks (Over ending)) (λ cause. stands marks (Over ending)) (λ result. stands (all_failed others (HasRunBehind result ∷ marks)) (Over ending)) progress)
-left_own ending others marks own (Wants command) = own
-left_own ending others marks own (Stopped cause) = own
-left_own ending others marks own (Done result rest) = failed_own others (HasRunBehind result ∷ marks) (run_behind result, own)
+left_own : (ending : Ending) (others : List (List ℕ)) (steps_done : List StepResult) → AllOwn steps_done → (progress : Progress (List ℕ))
+    → Owns (by_progress (λ command. stands steps_done (Over ending)) (λ cause. stands steps_done (Over ending)) (λ result. stands (all_failed others (HasRunBehind result ∷ steps_done)) (Over ending)) progress)
+left_own ending others steps_done own (Wants command) = own
+left_own ending others steps_done own (Stopped cause) = own
+left_own ending others steps_done own (Done result rest) = failed_own others (HasRunBehind result ∷ steps_done) (run_behind result, own)
 
-scripts_behind_own : (ending : Ending) (scripts : List (List ℕ)) (marks : List Mark) → AllOwn marks → (log : List Logged) (replies : List Reply)
-    → Owns (scripts_behind ending scripts marks log replies)
+scripts_behind_own : (ending : Ending) (scripts : List (List ℕ)) (steps_done : List StepResult) → AllOwn steps_done → (log : List Logged) (replies : List Reply)
+    → Owns (scripts_behind ending scripts steps_done log replies)
 unfolding scripts_behind
-scripts_behind_own ending [] marks own log replies = own
-scripts_behind_own ending (template ∷ others) marks own log replies =
-    card_all (left_script ending others marks) step.Script marks (λ result. scripts_behind ending others (HasRunBehind result ∷ marks)) Owns
+scripts_behind_own ending [] steps_done own log replies = own
+scripts_behind_own ending (template ∷ others) steps_done own log replies =
+    card_all (left_script ending others steps_done) step.Script steps_done (λ result. scripts_behind ending others (HasRunBehind result ∷ steps_done)) Owns
     (λ command. own) (λ at plain. own)
-    (λ cut course. left_own ending others marks own (course ([] ∷ [])))
-    (λ result. scripts_behind_own ending others (HasRunBehind result ∷ marks) (run_behind result, own))
+    (λ cut course. left_own ending others steps_done own (course ([] ∷ [])))
+    (λ result. scripts_behind_own ending others (HasRunBehind result ∷ steps_done) (run_behind result, own))
     step.Script (template_ran template) log replies
 
-second_own : (trade : Trade) (outcome : OnlineOutcome) (asked : Kind) (behind : List (List ℕ)) (marks : List Mark) → AllOwn marks → (log : List Logged) (replies : List Reply)
-    → Owns (second trade outcome asked behind marks log replies)
+second_own : (transaction : TransactionData) (outcome : OnlineOutcome) (asked : Kind) (behind : List (List ℕ)) (steps_done : List StepResult) → AllOwn steps_done → (log : List Logged) (replies : List Reply)
+    → Owns (second transaction outcome asked behind steps_done log replies)
 unfolding second
-second_own trade outcome asked behind marks own log replies =
-    card_all (cut_off marks) step.Second marks (λ ac. scripts_behind (decision outcome ac.kind) behind (HasSecond ac ∷ marks)) Owns
+second_own transaction outcome asked behind steps_done own log replies =
+    card_all (cut_off steps_done) step.Second steps_done (λ ac. scripts_behind (decision outcome ac.kind) behind (HasSecond ac ∷ steps_done)) Owns
     (λ command. own) (λ at plain. own) (λ cut course. own)
-    (λ ac. scripts_behind_own (decision outcome ac.kind) behind (HasSecond ac ∷ marks) (tt, own))
+    (λ ac. scripts_behind_own (decision outcome ac.kind) behind (HasSecond ac ∷ steps_done) (tt, own))
     step.Second _ log replies
 
-scripts_before_own : (trade : Trade) (reply : ReplyData) (scripts : List (List ℕ)) (marks : List Mark) → AllOwn marks → (log : List Logged) (replies : List Reply)
-    → Owns (scripts_before trade reply scripts marks log replies)
+scripts_before_own : (transaction : TransactionData) (reply : ReplyData) (scripts : List (List ℕ)) (steps_done : List StepResult) → AllOwn steps_done → (log : List Logged) (replies : List Reply)
+    → Owns (scripts_before transaction reply scripts steps_done log replies)
 unfolding scripts_before
-scripts_before_own trade reply [] marks own log replies = second_own trade Replied (kind_for reply.code) (templates 0x72 reply.scripts) marks own log replies
-scripts_before_own trade reply (template ∷ others) marks own log replies =
-    card_all (cut_off marks) step.Script marks (λ result. scripts_before trade reply others (HasRunBefore result ∷ marks)) Owns
+scripts_before_own transaction reply [] steps_done own log replies = second_own transaction Replied (kind_for reply.code) (templates_of_tag 0x72 reply.scripts) steps_done own log replies
+scripts_before_own transaction reply (template ∷ others) steps_done own log replies =
+    card_all (cut_off steps_done) step.Script steps_done (λ result. scripts_before transaction reply others (HasRunBefore result ∷ steps_done)) Owns
     (λ command. own) (λ at plain. own) (λ cut course. own)
-    (λ result. scripts_before_own trade reply others (HasRunBefore result ∷ marks) (run_before result, own))
+    (λ result. scripts_before_own transaction reply others (HasRunBefore result ∷ steps_done) (run_before result, own))
     step.Script (template_ran template) log replies
 
-authentication_by_own : (trade : Trade) (reply : ReplyData) (marks : List Mark) → AllOwn marks → (has : Bool) (auth : Option (List ℕ)) (log : List Logged) (replies : List Reply)
-    → Owns (authentication_by trade reply marks has auth log replies)
-authentication_by_own trade reply marks own has None log replies = scripts_before_own trade reply (templates 0x71 reply.scripts) marks own log replies
-authentication_by_own trade reply marks own false (Some value) log replies = scripts_before_own trade reply (templates 0x71 reply.scripts) marks own log replies
-authentication_by_own trade reply marks own true (Some value) log replies =
-    card_all (cut_off marks) step.Authenticate marks (λ good. scripts_before trade reply (templates 0x71 reply.scripts) (HasAuthenticated good ∷ marks)) Owns
+authentication_by_own : (transaction : TransactionData) (reply : ReplyData) (steps_done : List StepResult) → AllOwn steps_done → (has : Bool) (auth : Option (List ℕ)) (log : List Logged) (replies : List Reply)
+    → Owns (authentication_by transaction reply steps_done has auth log replies)
+authentication_by_own transaction reply steps_done own has None log replies = scripts_before_own transaction reply (templates_of_tag 0x71 reply.scripts) steps_done own log replies
+authentication_by_own transaction reply steps_done own false (Some value) log replies = scripts_before_own transaction reply (templates_of_tag 0x71 reply.scripts) steps_done own log replies
+authentication_by_own transaction reply steps_done own true (Some value) log replies =
+    card_all (cut_off steps_done) step.Authenticate steps_done (λ good. scripts_before transaction reply (templates_of_tag 0x71 reply.scripts) (HasAuthenticated good ∷ steps_done)) Owns
     (λ command. own) (λ at plain. own) (λ cut course. own)
-    (λ good. scripts_before_own trade reply (templates 0x71 reply.scripts) (HasAuthenticated good ∷ marks)
+    (λ good. scripts_before_own transaction reply (templates_of_tag 0x71 reply.scripts) (HasAuthenticated good ∷ steps_done)
     (among_if (not good) (tvr_bit 5 7) 0x0000000040 refl, own))
-    step.Authenticate (authenticated value) log replies
+    step.Authenticate (authentication_step value) log replies
 
-authentication_own : (trade : Trade) (reply : ReplyData) (marks : List Mark) → AllOwn marks → (log : List Logged) (replies : List Reply) → Owns (authentication trade reply marks log replies)
-unfolding authentication
-authentication_own trade reply marks own = authentication_by_own trade reply marks own (has_authentication trade.card) reply.auth
+authentication_own : (transaction : TransactionData) (reply : ReplyData) (steps_done : List StepResult) → AllOwn steps_done → (log : List Logged) (replies : List Reply) → Owns (issuer_authentication transaction reply steps_done log replies)
+unfolding issuer_authentication
+authentication_own transaction reply steps_done own = authentication_by_own transaction reply steps_done own (has_authentication transaction.card) reply.auth
 
-unable_own : (trade : Trade) (request : OnlineRequest) (marks : List Mark) → AllOwn marks → (log : List Logged) (replies : List Reply) → Owns (unable_online trade request marks log replies)
+unable_own : (transaction : TransactionData) (request : OnlineRequest) (steps_done : List StepResult) → AllOwn steps_done → (log : List Logged) (replies : List Reply) → Owns (unable_online transaction request steps_done log replies)
 unfolding unable_online
-unable_own trade request marks own = second_own trade Unable (kind_unable trade marks) [] (WasUnable request (kind_unable trade marks) ∷ marks) (tt, own)
+unable_own transaction request steps_done own = second_own transaction Unable (kind_unable transaction steps_done) [] (WasUnable request (kind_unable transaction steps_done) ∷ steps_done) (tt, own)
 
-reply_own : (trade : Trade) (marks : List Mark) → AllOwn marks → (said : Result ReplyData MessageFault) (log : List Logged) (replies : List Reply) → Owns (reply_read trade marks said log replies)
-reply_own trade marks own (Ok reply) = authentication_own trade (kept reply) (HasReply reply ∷ marks) (tt, own)
-reply_own trade marks own (Err fault) = unable_own trade Sent marks own
+reply_own : (transaction : TransactionData) (steps_done : List StepResult) → AllOwn steps_done → (said : Result ReplyData MessageFault) (log : List Logged) (replies : List Reply) → Owns (reply_read transaction steps_done said log replies)
+reply_own transaction steps_done own (Ok reply) = authentication_own transaction (kept_host_reply reply) (HasReply reply ∷ steps_done) (tt, own)
+reply_own transaction steps_done own (Err fault) = unable_own transaction Sent steps_done own
 
-replied_own : (trade : Trade) (marks : List Mark) → AllOwn marks → (heard : Option (List ℕ)) (log : List Logged) (replies : List Reply) → Owns (replied trade marks heard log replies)
-replied_own trade marks own None = unable_own trade Sent marks own
-replied_own trade marks own (Some said) = reply_own trade marks own (reply_of said)
+replied_own : (transaction : TransactionData) (steps_done : List StepResult) → AllOwn steps_done → (heard : Option (List ℕ)) (log : List Logged) (replies : List Reply) → Owns (replied transaction steps_done heard log replies)
+replied_own transaction steps_done own None = unable_own transaction Sent steps_done own
+replied_own transaction steps_done own (Some said) = reply_own transaction steps_done own (reply_of said)
 
-online_by_own : (trade : Trade) (marks : List Mark) (message : List ℕ) → AllOwn marks → (test : Bool) (log : List Logged) (replies : List Reply)
-    → Owns (let rest : Rest Mark = (if test then unable_online trade NotSent marks else host_step marks message (replied trade marks)) in rest log replies)
-online_by_own trade marks message own true = unable_own trade NotSent marks own
-online_by_own trade marks message own false = host_all marks message (replied trade marks) Owns own (replied_own trade marks own)
+online_by_own : (transaction : TransactionData) (steps_done : List StepResult) (message : List ℕ) → AllOwn steps_done → (test : Bool) (log : List Logged) (replies : List Reply)
+    → Owns (let rest : Rest StepResult = (if test then unable_online transaction NotSent steps_done else host_step steps_done message (replied transaction steps_done)) in rest log replies)
+online_by_own transaction steps_done message own true = unable_own transaction NotSent steps_done own
+online_by_own transaction steps_done message own false = host_all steps_done message (replied transaction steps_done) Owns own (replied_own transaction steps_done own)
 
-first_answered_own : (trade : Trade) (ac : AcData) (marks : List Mark) → AllOwn marks → (kind : Kind) (log : List Logged) (replies : List Reply) → Owns (first_answered trade ac marks kind log replies)
-first_answered_own trade ac marks own Tc log replies = own
-first_answered_own trade ac marks own Aac log replies = own
-first_answered_own trade ac marks own Arqc log replies = online_by_own trade marks _ own (is_offline_only trade.deal.settings.kind) log replies
+first_answered_own : (transaction : TransactionData) (ac : AcData) (steps_done : List StepResult) → AllOwn steps_done → (kind : Kind) (log : List Logged) (replies : List Reply) → Owns (first_answered transaction ac steps_done kind log replies)
+first_answered_own transaction ac steps_done own Tc log replies = own
+first_answered_own transaction ac steps_done own Aac log replies = own
+first_answered_own transaction ac steps_done own Arqc log replies = online_by_own transaction steps_done _ own (is_offline_only transaction.outset.settings.kind) log replies
 
-first_own : (trade : Trade) (asked : Kind) (marks : List Mark) → AllOwn marks → (log : List Logged) (replies : List Reply) → Owns (first trade asked marks log replies)
+first_own : (transaction : TransactionData) (asked : Kind) (steps_done : List StepResult) → AllOwn steps_done → (log : List Logged) (replies : List Reply) → Owns (first transaction asked steps_done log replies)
 unfolding first
-first_own trade asked marks own log replies =
-    card_all (cut_off marks) step.First marks (λ ac. first_answered trade ac (HasFirst ac ∷ marks) ac.kind) Owns
+first_own transaction asked steps_done own log replies =
+    card_all (cut_off steps_done) step.First steps_done (λ ac. first_answered transaction ac (HasFirst ac ∷ steps_done) ac.kind) Owns
     (λ command. own) (λ at plain. own) (λ cut course. own)
-    (λ ac. first_answered_own trade ac (HasFirst ac ∷ marks) (tt, own) ac.kind)
+    (λ ac. first_answered_own transaction ac (HasFirst ac ∷ steps_done) (tt, own) ac.kind)
     step.First _ log replies
 
-analysis_own : (trade : Trade) (marks : List Mark) → AllOwn marks → (log : List Logged) (replies : List Reply) → Owns (analysis trade marks log replies)
+analysis_own : (transaction : TransactionData) (steps_done : List StepResult) → AllOwn steps_done → (log : List Logged) (replies : List Reply) → Owns (analysis transaction steps_done log replies)
 unfolding analysis
-analysis_own trade marks own = first_own trade (kind_wanted trade marks) (HasAnalysed (kind_wanted trade marks) ∷ marks) (tt, own)
+analysis_own transaction steps_done own = first_own transaction (kind_wanted transaction steps_done) (HasAnalysed (kind_wanted transaction steps_done) ∷ steps_done) (tt, own)
 
-judged_gives : (progress : Progress Judged) → risk_law.FindsOwn progress → Gives (λ judged. risk_law.AreOwn judged.tvr.0) progress
+judged_gives : (progress : Progress Judged) → risk_law.FindsRiskBits progress → Gives (λ judged. risk_law.AreRiskBits judged.tvr.0) progress
 judged_gives (Wants command) finds = tt
 judged_gives (Stopped cause) finds = tt
 judged_gives (Done judged rest) finds = finds
 
-risk_own : (trade : Trade) (marks : List Mark) → AllOwn marks → (log : List Logged) (replies : List Reply) → Owns (risk trade marks log replies)
+risk_own : (transaction : TransactionData) (steps_done : List StepResult) → AllOwn steps_done → (log : List Logged) (replies : List Reply) → Owns (risk transaction steps_done log replies)
 unfolding risk
-risk_own trade marks own log replies =
-    card_own (λ (judged : Judged). risk_law.AreOwn judged.tvr.0) step.Risk marks (λ judged. analysis trade (HasJudged judged ∷ marks)) own
-    (λ judged finds. analysis_own trade (HasJudged judged ∷ marks) (finds, own))
-    step.Risk (risky trade.card trade.deal.settings trade.row trade.deal.purchase log)
-    (λ answers. judged_gives (risky trade.card trade.deal.settings trade.row trade.deal.purchase log answers)
-    (risk_bits.bits_own trade.card trade.deal.settings trade.row trade.deal.purchase log answers)) log replies
+risk_own transaction steps_done own log replies =
+    card_own (λ (judged : Judged). risk_law.AreRiskBits judged.tvr.0) step.Risk steps_done (λ judged. analysis transaction (HasJudged judged ∷ steps_done)) own
+    (λ judged finds. analysis_own transaction (HasJudged judged ∷ steps_done) (finds, own))
+    step.Risk (risky transaction.card transaction.outset.settings transaction.row transaction.outset.purchase log)
+    (λ answers. judged_gives (risky transaction.card transaction.outset.settings transaction.row transaction.outset.purchase log answers)
+    (risk_bits.bits_own transaction.card transaction.outset.settings transaction.row transaction.outset.purchase log answers)) log replies
 
-verified_gives : (progress : Progress Verified) → verification_law.FindsOwn progress → Gives (λ verified. verification_law.AreOwn verified.tvr.0) progress
+verified_gives : (progress : Progress Verified) → verification_law.FindsVerificationBits progress → Gives (λ verified. verification_law.AreVerificationBits verified.tvr.0) progress
 verified_gives (Wants command) finds = tt
 verified_gives (Stopped cause) finds = tt
 verified_gives (Done verified rest) finds = finds
 
-verification_own : (trade : Trade) (marks : List Mark) → AllOwn marks → (log : List Logged) (replies : List Reply) → Owns (verification trade marks log replies)
+verification_own : (transaction : TransactionData) (steps_done : List StepResult) → AllOwn steps_done → (log : List Logged) (replies : List Reply) → Owns (verification transaction steps_done log replies)
 unfolding verification
-verification_own trade marks own log replies =
-    card_own (λ (verified : Verified). verification_law.AreOwn verified.tvr.0) step.Verify marks (λ verified. risk trade (HasVerified verified ∷ marks)) own
-    (λ verified finds. risk_own trade (HasVerified verified ∷ marks) (finds, own))
-    step.Verify (cvm trade.card trade.deal.settings trade.deal.purchase)
-    (λ answers. verified_gives (cvm trade.card trade.deal.settings trade.deal.purchase answers)
-    (verification_bits.bits_own trade.card trade.deal.settings trade.deal.purchase answers)) log replies
+verification_own transaction steps_done own log replies =
+    card_own (λ (verified : Verified). verification_law.AreVerificationBits verified.tvr.0) step.Verify steps_done (λ verified. risk transaction (HasVerified verified ∷ steps_done)) own
+    (λ verified finds. risk_own transaction (HasVerified verified ∷ steps_done) (finds, own))
+    step.Verify (cvm transaction.card transaction.outset.settings transaction.outset.purchase)
+    (λ answers. verified_gives (cvm transaction.card transaction.outset.settings transaction.outset.purchase answers)
+    (verification_bits.bits_own transaction.card transaction.outset.settings transaction.outset.purchase answers)) log replies
 
-restrictions_own : (trade : Trade) (log : List Logged) (replies : List Reply) → Owns (restrictions trade log replies)
+restrictions_own : (transaction : TransactionData) (log : List Logged) (replies : List Reply) → Owns (restrictions transaction log replies)
 unfolding restrictions
-restrictions_own trade log replies =
-    verification_own trade
-    (HasRestricted (restricted trade.card trade.deal.settings trade.row trade.deal.purchase) ∷ HasRead trade.card ∷ [])
-    (restricted_own trade.card trade.deal.settings trade.row trade.deal.purchase, (among (tvr_bit 1 8) 0x8000000000 refl, tt)) log replies
+restrictions_own transaction log replies =
+    verification_own transaction
+    (HasRestricted (restricted transaction.card transaction.outset.settings transaction.row transaction.outset.purchase) ∷ HasRead transaction.card ∷ [])
+    (restricted_own transaction.card transaction.outset.settings transaction.row transaction.outset.purchase, (among (tvr_bit 1 8) 0x8000000000 refl, tt)) log replies
 
 pub bits_belong : BitsBelong
-bits_belong deal replies place stands =
-    belong (dialogue deal replies).marks place
-    (dialogue_all deal Owns (λ deed none plain. tt) (λ row card log replies. restrictions_own (record { deal = deal; row = row; card = card }) log replies) replies)
+bits_belong outset replies place stands =
+    belong (dialogue outset replies).steps_done place
+    (dialogue_all outset Owns (λ deed none plain. tt) (λ row card log replies. restrictions_own (record { outset = outset; row = row; card = card }) log replies) replies)
     stands

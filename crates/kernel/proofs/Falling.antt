@@ -3,8 +3,8 @@ use Rattle.std.proofs.Common.{◌≡◌, refl, ℕ, ◌+◌, ◌*◌, ◌≤◌,
 use Rattle.std.proofs.lemmas.Bool.Decides.{nat_tests}
 use Rattle.std.specs.Prelude.{cond}
 use Rattle.app_select.specs.Candidates.{CandidateData}
-use Rattle.app_select.specs.NextLeads.{SearchNextLeads, answers_left_next}
-use Rattle.app_select.specs.Selecting.{SelectedData, opening}
+use Rattle.app_select.specs.NextLeads.{SearchNextLeads, search_answers_left_next}
+use Rattle.app_select.specs.Selecting.{SelectedData, first_selected}
 use Rattle.app_select.specs.declared.search.SearchNext.{SearchNext}
 use Rattle.app_select.specs.declared.search.SearchNext.TheVariants as search
 use Rattle.ber_tlv.proofs.ItemBounds.{item_at-lies, lies-length}
@@ -16,11 +16,11 @@ use Rattle.ber_tlv.specs.Left.{items_of}
 use Rattle.ber_tlv.specs.declared.item.TlvFault.{TlvFault}
 use Rattle.emv_dict.specs.Progress.{Done}
 use Rattle.kernel.specs.Kernel.{opening_next}
-use Rattle.kernel.specs.Rank.{bytes_in, search_rank, opening_rank}
+use Rattle.kernel.specs.Rank.{bytes_in_templates, search_rank, opening_rank}
 use Rattle.kernel.specs.declared.kernel.Next.TheVariants as next
 use Rattle.kernel.specs.declared.stage.Opening.{Opening}
 use Rattle.kernel.specs.declared.stage.Opening.TheVariants as at
-use Rattle.terminal_state.specs.Scripts.{templates}
+use Rattle.terminal_state.specs.Scripts.{templates_of_tag}
 use Rattle.terminal_state.specs.declared.table.Table.{Table}
 
 -- the bytes of all objects: those of each value, and one for its tag
@@ -39,19 +39,19 @@ values_fit bytes place (item ∷ items) stand =
     omega arith
 
 -- no object has two tags
-tags_apart : (items : List ItemData) → bytes_in (map (λ item. item.value) (filter (λ item. item.tag == 0x71) items)) + bytes_in (map (λ item. item.value) (filter (λ item. item.tag == 0x72) items)) ≤ all_bytes items
+tags_apart : (items : List ItemData) → bytes_in_templates (map (λ item. item.value) (filter (λ item. item.tag == 0x71) items)) + bytes_in_templates (map (λ item. item.value) (filter (λ item. item.tag == 0x72) items)) ≤ all_bytes items
 tags_apart [] = omega arith
 tags_apart (item ∷ items) = by (item.tag == 0x71) (item.tag == 0x72) refl refl (filter (λ item. item.tag == 0x71) items) (filter (λ item. item.tag == 0x72) items) (tags_apart items)
   where
     by : (a b : Bool) → (item.tag == 0x71) ≡ a → (item.tag == 0x72) ≡ b → (one two : List ItemData)
-        → bytes_in (map (λ item. item.value) one) + bytes_in (map (λ item. item.value) two) ≤ all_bytes items
-        → bytes_in (map (λ item. item.value) (cond a (item ∷ one) one)) + bytes_in (map (λ item. item.value) (cond b (item ∷ two) two)) ≤ all_bytes (item ∷ items)
+        → bytes_in_templates (map (λ item. item.value) one) + bytes_in_templates (map (λ item. item.value) two) ≤ all_bytes items
+        → bytes_in_templates (map (λ item. item.value) (cond a (item ∷ one) one)) + bytes_in_templates (map (λ item. item.value) (cond b (item ∷ two) two)) ≤ all_bytes (item ∷ items)
     by true true x y one two rest = absurd (grind (arith, nat_tests))
     by true false x y one two rest = omega arith
     by false true x y one two rest = omega arith
     by false false x y one two rest = omega arith
 
-read_bytes : (bytes : List ℕ) (read : Result (List ItemData) TlvFault) → items_of bytes ≡ read → bytes_in (values_of 0x71 read) + bytes_in (values_of 0x72 read) ≤ length bytes
+read_bytes : (bytes : List ℕ) (read : Result (List ItemData) TlvFault) → items_of bytes ≡ read → bytes_in_templates (values_of 0x71 read) + bytes_in_templates (values_of 0x72 read) ≤ length bytes
 read_bytes bytes (Ok items) is =
     let fit = values_fit bytes 0 items ((reads_list bytes items).0 is) in
     let apart = tags_apart items in
@@ -59,23 +59,23 @@ read_bytes bytes (Ok items) is =
 read_bytes bytes (Err fault) is = omega arith
 
 -- templates have no more bytes than the reply's scripts
-pub scripts_bytes : (scripts : List ℕ) → bytes_in (templates 0x71 scripts) + bytes_in (templates 0x72 scripts) ≤ length scripts
-unfolding templates
+pub scripts_bytes : (scripts : List ℕ) → bytes_in_templates (templates_of_tag 0x71 scripts) + bytes_in_templates (templates_of_tag 0x72 scripts) ≤ length scripts
+unfolding templates_of_tag
 scripts_bytes scripts = read_bytes scripts (items_of scripts) refl
 
 -- a search that takes an answer
-pub search_falls : (next : SearchNext) (candidates : List CandidateData) (left : ℕ) → answers_left_next next candidates < left → search_rank next candidates < 2 * left
+pub search_falls : (next : SearchNext) (candidates : List CandidateData) (left : ℕ) → search_answers_left_next next candidates < left → search_rank next candidates < 2 * left
 search_falls (search.Ask state) candidates left fewer = omega arith
 search_falls (search.Chosen choice) candidates left fewer = omega arith
 search_falls (search.Ended cause) candidates left fewer = omega arith
 
 -- the candidates that are left are asked before one of them is chosen
-asks_first : (old : List CandidateData) → (selected : SelectedData) → opening old [] ≡ Done selected [] → ⊥
+asks_first : (old : List CandidateData) → (selected : SelectedData) → first_selected old [] ≡ Done selected [] → ⊥
 asks_first [] selected is = cc
 asks_first (candidate ∷ left) selected is = cc
 
 -- one that goes on behind a refusal
-pub refused_falls : (next : SearchNext) (old new : List CandidateData) → SearchNextLeads new (opening old) [] next → answers_left_next next new ≤ length old → search_rank next new ≤ 2 * length old
+pub refused_falls : (next : SearchNext) (old new : List CandidateData) → SearchNextLeads new (first_selected old) [] next → search_answers_left_next next new ≤ length old → search_rank next new ≤ 2 * length old
 refused_falls (search.Ask state) old new leads few = omega arith
 refused_falls (search.Chosen choice) old new leads few = absurd (asks_first old _ (leads []))
 refused_falls (search.Ended cause) old new leads few = omega arith

@@ -18,8 +18,8 @@ mod Took
 mod Falling
 mod Growing
 mod Turning
-mod Telling
+pub mod Telling
 mod Restricting
 mod Uncaptured
 mod Belonging
-mod Traded
+mod InTransaction

@@ -1,12 +1,12 @@
 -- What follows an answer, for the whole behind it.
 use Rattle.std.proofs.Common.{ℕ, List, [], ◌∷◌, ◌++◌}
-use Rattle.cvm_list.specs.NextIs.{NextLeads as VerifyLeads}
+use Rattle.cvm_list.specs.NextIs.{VerifyNextLeads as VerifyLeads}
 use Rattle.cvm_list.specs.declared.verifying.VerifyNext.{VerifyNext}
 use Rattle.cvm_list.specs.declared.verifying.VerifyNext.TheVariants as verify
 use Rattle.emv_dict.specs.Progress.{Progress}
 use Rattle.emv_dict.specs.declared.judged.Judged.{Judged}
 use Rattle.emv_dict.specs.declared.verified.Verified.{Verified}
-use Rattle.risk_mgmt.specs.Judging.{NextLeads as JudgeLeads}
+use Rattle.risk_mgmt.specs.Judging.{JudgeNextLeads as JudgeLeads}
 use Rattle.risk_mgmt.specs.declared.judging.JudgeNext.{JudgeNext}
 use Rattle.risk_mgmt.specs.declared.judging.JudgeNext.TheVariants as judge
 

@@ -13,7 +13,7 @@ use Rattle.emv_dict.specs.declared.ending.Step.{Step}
 use Rattle.emv_dict.specs.declared.purchase.Logged.{Logged}
 use Rattle.env_map.specs.Entries.{Entries}
 use Rattle.kernel.proofs.Courses.{same, done, stopped, gone, taken}
-use Rattle.kernel.specs.Course.{Standing, Rest, over, card_step, cut_off}
+use Rattle.kernel.specs.StepsInTurn.{Standing, Rest, over, card_step, cut_off}
 use Rattle.kernel.specs.Reply.{Reply, CardSaid, CardGone}
 use Rattle.object_lists.specs.CardRead.{ReadCard}
 use Rattle.pse_directory.specs.Next.{DirectoryNextLeads}
@@ -23,11 +23,11 @@ use Rattle.read_records.specs.Leading.{OptionsNextLeads, CourseNextLeads}
 use Rattle.read_records.specs.Options.{Opened}
 use Rattle.read_records.specs.declared.initiating.OptionsNext.{OptionsNext}
 use Rattle.read_records.specs.declared.initiating.OptionsNext.TheVariants as options
-use Rattle.read_records.specs.declared.reading.CourseNext.{CourseNext}
-use Rattle.read_records.specs.declared.reading.CourseNext.TheVariants as course
-use Rattle.terminal_state.specs.Marks.{Mark}
+use Rattle.read_records.specs.declared.reading.RecordsNext.{RecordsNext}
+use Rattle.read_records.specs.declared.reading.RecordsNext.TheVariants as course
+use Rattle.terminal_state.specs.StepResults.{StepResult}
 
-module _ {A : Type 0} (cut step : Step) (course : List (List ℕ) → Progress A) (next : A → Rest Mark) (log : List Logged) (rest : List Reply → Standing Mark)
+module _ {A : Type 0} (cut step : Step) (course : List (List ℕ) → Progress A) (next : A → Rest StepResult) (log : List Logged) (rest : List Reply → Standing StepResult)
     (passed : (later : List Reply) → rest later ≡ card_step (cut_off []) cut step [] course next log later) where
   -- the step asks on
   pub asks_on : (other : List (List ℕ) → Progress A) → ((later : List (List ℕ)) → course later ≡ other later) → (later : List Reply) → rest later ≡ card_step (cut_off []) cut step [] other next log later
@@ -67,7 +67,7 @@ options_shifted objects whole answer options.Refused leads = leads
 options_shifted objects whole answer (options.Read records) leads = leads
 options_shifted objects whole answer (options.Ended cause) leads = leads
 
-pub course_shifted : (objects : Entries) → (whole : List (List ℕ) → Progress ReadCard) → (answer : List ℕ) → (next : CourseNext) → CourseNextLeads objects whole ([] ++ answer ∷ []) next → CourseNextLeads objects (λ later. whole (answer ∷ later)) [] next
+pub course_shifted : (objects : Entries) → (whole : List (List ℕ) → Progress ReadCard) → (answer : List ℕ) → (next : RecordsNext) → CourseNextLeads objects whole ([] ++ answer ∷ []) next → CourseNextLeads objects (λ later. whole (answer ∷ later)) [] next
 course_shifted objects whole answer (course.Ask records) leads = leads
 course_shifted objects whole answer course.Done leads = leads
 course_shifted objects whole answer (course.Ended cause) leads = leads

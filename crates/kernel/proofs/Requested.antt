@@ -2,15 +2,15 @@
 use Rattle.std.proofs.Common.{◌≡◌, ℕ, zero, suc, ◌+◌, ◌*◌, ◌/◌, ◌%◌, ◌<◌, ◌≤◌, true, List, [], ◌∷◌, ◌++◌, length, refl, ◌∙◌, arith, Option, Some, None, length-append}
 use Rattle.std.proofs.lemmas.Bool.Decides.{nat_tests}
 use Rattle.std.proofs.lemmas.List.Folds.{list_all-append}
-use Rattle.auth_message.specs.Accepted.{AreDigits}
+use Rattle.auth_message.specs.Accepted.{AreDigitBytes}
 use Rattle.emv_dict.specs.Bcd.{has_digits, two_digits, numeric}
 use Rattle.emv_dict.specs.Flags.{tvr_bytes}
 use Rattle.emv_dict.specs.Settings.{IsPurchase}
 use Rattle.emv_dict.specs.declared.purchase.AidRow.{AidRow}
 use Rattle.online_step.proofs.Digits.{date_digits, trade_digits}
 use Rattle.online_step.specs.TerminalData.{HasTerminalData}
-use Rattle.terminal_state.specs.Marks.{MomentData}
-use Rattle.terminal_state.specs.Terminal.{Deal, if_there, lasting_objects, terminal_objects}
+use Rattle.terminal_state.specs.StepResults.{StateSoFarData}
+use Rattle.terminal_state.specs.Terminal.{Outset, object_if_there, lasting_objects, terminal_objects}
 
 pub two_digits-good : (n : ℕ) → n < 100 → has_digits (two_digits n) ≡ true
 two_digits-good n small =
@@ -20,7 +20,7 @@ two_digits-good n small =
     let second : n % 10 ≤ 9 = omega arith in
     rw (high, low) (grind (arith, nat_tests))
 
-numeric-digits : (count n : ℕ) → AreDigits (numeric count n)
+numeric-digits : (count n : ℕ) → AreDigitBytes (numeric count n)
 unfolding numeric
 numeric-digits zero n = refl
 numeric-digits (suc count) n =
@@ -33,36 +33,36 @@ numeric-length zero n = refl
 numeric-length (suc count) n = length-append (numeric count (n / 100)) (two_digits (n % 100) ∷ []) ∙ rw (numeric-length count (n / 100)) (omega arith)
 
 -- the sizes that the types of the fields give
-pub record AreSized (deal : Deal) : Type 0 where
-  pub id : length deal.settings.id ≡ 8
-  pub country : length deal.settings.country ≡ 2
-  pub currency : length deal.purchase.currency ≡ 2
-  pub date : length deal.purchase.date ≡ 3
-  pub number : length deal.purchase.number ≡ 4
+pub record AreSized (outset : Outset) : Type 0 where
+  pub id : length outset.settings.id ≡ 8
+  pub country : length outset.settings.country ≡ 2
+  pub currency : length outset.purchase.currency ≡ 2
+  pub date : length outset.purchase.date ≡ 3
+  pub number : length outset.purchase.number ≡ 4
 
-lasting : (deal : Deal) → (row : AidRow) → (moment : MomentData) → AreSized deal → IsPurchase deal.purchase → length (tvr_bytes moment.tvr) ≡ 5 → HasTerminalData (lasting_objects deal row moment)
+lasting : (outset : Outset) → (row : AidRow) → (state_so_far : StateSoFarData) → AreSized outset → IsPurchase outset.purchase → length (tvr_bytes state_so_far.tvr) ≡ 5 → HasTerminalData (lasting_objects outset row state_so_far)
 unfolding lasting_objects
-lasting deal row moment sized is results = record {
+lasting outset row state_so_far sized is results = record {
   identification = sized.id;
-  amount = numeric-length 6 deal.purchase.amount;
-  amount_digits = numeric-digits 6 deal.purchase.amount;
-  other_amount = numeric-length 6 deal.purchase.other;
-  other_amount_digits = numeric-digits 6 deal.purchase.other;
+  amount = numeric-length 6 outset.purchase.amount;
+  amount_digits = numeric-digits 6 outset.purchase.amount;
+  other_amount = numeric-length 6 outset.purchase.other;
+  other_amount_digits = numeric-digits 6 outset.purchase.other;
   country = sized.country;
   verification_results = results;
   currency = sized.currency;
   currency_code = is.currency_code;
   date = sized.date;
-  date_digits = date_digits deal.purchase.date sized.date is.day;
+  date_digits = date_digits outset.purchase.date sized.date is.day;
   transaction_type = refl;
-  transaction_digits = trade_digits deal.purchase.trade is.known_trade;
+  transaction_digits = trade_digits outset.purchase.trade is.known_trade;
   unpredictable_number = sized.number;
 }
 
 -- an object before the others changes none of these
-before : (code issuer : Option (List ℕ)) → (deal : Deal) → (row : AidRow) → (moment : MomentData) → HasTerminalData (lasting_objects deal row moment) → HasTerminalData (if_there 0x8A code ++ if_there 0x91 issuer ++ lasting_objects deal row moment)
-before None None deal row moment has = has
-before None (Some value) deal row moment has = record {
+before : (code issuer : Option (List ℕ)) → (outset : Outset) → (row : AidRow) → (state_so_far : StateSoFarData) → HasTerminalData (lasting_objects outset row state_so_far) → HasTerminalData (object_if_there 0x8A code ++ object_if_there 0x91 issuer ++ lasting_objects outset row state_so_far)
+before None None outset row state_so_far has = has
+before None (Some value) outset row state_so_far has = record {
   identification = has.identification;
   amount = has.amount;
   amount_digits = has.amount_digits;
@@ -78,7 +78,7 @@ before None (Some value) deal row moment has = record {
   transaction_digits = has.transaction_digits;
   unpredictable_number = has.unpredictable_number;
 }
-before (Some code) None deal row moment has = record {
+before (Some code) None outset row state_so_far has = record {
   identification = has.identification;
   amount = has.amount;
   amount_digits = has.amount_digits;
@@ -94,7 +94,7 @@ before (Some code) None deal row moment has = record {
   transaction_digits = has.transaction_digits;
   unpredictable_number = has.unpredictable_number;
 }
-before (Some code) (Some value) deal row moment has = record {
+before (Some code) (Some value) outset row state_so_far has = record {
   identification = has.identification;
   amount = has.amount;
   amount_digits = has.amount_digits;
@@ -114,6 +114,6 @@ before (Some code) (Some value) deal row moment has = record {
 tvr_bytes-length : (tvr : ℕ) → length (tvr_bytes tvr) ≡ 5
 tvr_bytes-length tvr = refl
 
-pub requested : (deal : Deal) → (row : AidRow) → (moment : MomentData) → AreSized deal → IsPurchase deal.purchase → HasTerminalData (terminal_objects deal row moment)
+pub requested : (outset : Outset) → (row : AidRow) → (state_so_far : StateSoFarData) → AreSized outset → IsPurchase outset.purchase → HasTerminalData (terminal_objects outset row state_so_far)
 unfolding terminal_objects
-requested deal row moment sized is = before moment.code moment.issuer_data deal row moment (lasting deal row moment sized is (tvr_bytes-length moment.tvr))
+requested outset row state_so_far sized is = before state_so_far.code state_so_far.issuer_data outset row state_so_far (lasting outset row state_so_far sized is (tvr_bytes-length state_so_far.tvr))

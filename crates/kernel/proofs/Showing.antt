@@ -2,15 +2,15 @@
 use Rattle.std.proofs.Common.{◌≡◌, refl, sym, ap, ◌∙◌, List, [], ◌++◌, drop, None}
 use Rattle.std.proofs.lemmas.List.{append-nil}
 use Rattle.app_select.specs.Leading.{rest_with}
-use Rattle.cvm_list.specs.Waiting.{rest_of as verifying_rest}
+use Rattle.cvm_list.specs.Waiting.{verifying_rest}
 use Rattle.emv_dict.specs.declared.ending.Step.TheVariants as step
 use Rattle.emv_dict.specs.declared.purchase.Logged.{Logged}
 use Rattle.kernel.proofs.Courses.{wants}
-use Rattle.kernel.specs.Course.{Standing, stands, cut_off, host_step}
-use Rattle.kernel.specs.Dialogue.{Trade, dialogue, left_script}
-use Rattle.kernel.specs.Kernel.{KernelData, KernelFits, StageFits, KernelStands, StageGoes, deal_in, next_of, stage_next, opening_next, trading_next, told_next, told_bytes, deed_next, deed_bytes, bytes_by}
+use Rattle.kernel.specs.StepsInTurn.{Standing, stands, cut_off, host_step}
+use Rattle.kernel.specs.Dialogue.{TransactionData, dialogue, left_script}
+use Rattle.kernel.specs.Kernel.{KernelData, KernelFits, StageFits, KernelStands, StageGoes, outset_in, kernel_next, stage_next, opening_next, trading_next, standing_next, told_bytes, deed_next, deed_bytes, bytes_by}
 use Rattle.kernel.specs.Reply.{Reply, Deed, ToCard, ToHost, Over}
-use Rattle.kernel.specs.Stages.{OpeningStands, TradingStands, generating, authenticating}
+use Rattle.kernel.specs.Stages.{OpeningStands, TradingStands, generating, authenticating, script_rest}
 use Rattle.kernel.specs.declared.stage.Opening.{Opening}
 use Rattle.kernel.specs.declared.stage.Opening.TheVariants as opening
 use Rattle.kernel.specs.declared.stage.Stage.{Stage}
@@ -18,13 +18,12 @@ use Rattle.kernel.specs.declared.stage.Stage.TheVariants as stage
 use Rattle.kernel.specs.declared.stage.Trading.{Trading}
 use Rattle.kernel.specs.declared.stage.Trading.TheVariants as trading
 use Rattle.online_step.specs.declared.ac.GenerateAc.TheVariants as generate
-use Rattle.pse_directory.specs.Left.{rest_of as directory_rest}
+use Rattle.pse_directory.specs.Left.{directory_rest}
 use Rattle.read_records.specs.DataRead.{reading}
 use Rattle.read_records.specs.Options.{initiated}
-use Rattle.risk_mgmt.specs.Asked.{rest_of as judging_rest}
-use Rattle.script_run.specs.Ran.{rest_of as running_rest}
-use Rattle.terminal_state.specs.Marks.{Mark, latest, card_of}
-use Rattle.terminal_state.specs.Scripts.{templates}
+use Rattle.risk_mgmt.specs.Asked.{judging_rest}
+use Rattle.terminal_state.specs.StepResults.{StepResult, latest, sets_card}
+use Rattle.terminal_state.specs.Scripts.{templates_of_tag}
 use Rattle.terminal_state.specs.declared.table.Table.{Table}
 
 -- what a stage does next
@@ -50,7 +49,7 @@ abbrev pub stage_deed : Table → Stage → Deed
 stage_deed t (stage.Opening s) = opening_deed t s
 stage_deed t (stage.Trading at) = trading_deed t at.trading
 
-pub opening_shows : (t : Table) → (s : Opening) → (log : List Logged) → (rest : List Reply → Standing Mark) → OpeningStands t s log rest → rest [] ≡ stands [] (opening_deed t s)
+pub opening_shows : (t : Table) → (s : Opening) → (log : List Logged) → (rest : List Reply → Standing StepResult) → OpeningStands t s log rest → rest [] ≡ stands [] (opening_deed t s)
 opening_shows t (opening.Directory s) log rest is =
     is.passed [] ∙ wants (cut_off []) s.cut step.Select [] (directory_rest s.listing) _ log t.command.items is.shows
 opening_shows t (opening.Select s) log rest is =
@@ -61,47 +60,47 @@ opening_shows t (opening.Read s) log rest is =
     is.passed [] ∙ wants (cut_off []) step.Read step.Read [] (reading (record { entries = t.objects; left = s.course })) _ log t.command.items is.shows
 opening_shows t (opening.Over ending) log rest is = is.passed []
 
-pub trading_shows : (t : Table) → (trade : Trade) → (s : Trading) → (log : List Logged) → (rest : List Reply → Standing Mark) → (is : TradingStands t trade s log rest) → rest [] ≡ stands is.marks (trading_deed t s)
+pub trading_shows : (t : Table) → (transaction : TransactionData) → (s : Trading) → (log : List Logged) → (rest : List Reply → Standing StepResult) → (is : TradingStands t transaction s log rest) → rest [] ≡ stands is.steps_done (trading_deed t s)
 unfolding host_step
-trading_shows t trade (trading.Verify v) log rest is =
-    is.passed [] ∙ wants (cut_off is.marks) step.Verify step.Verify is.marks (verifying_rest v) _ log t.command.items is.shows
-trading_shows t trade (trading.Risk j) log rest is =
-    is.passed [] ∙ wants (cut_off is.marks) step.Risk step.Risk is.marks (judging_rest j) _ log t.command.items is.shows
-trading_shows t trade (trading.First asked) log rest is =
-    is.passed [] ∙ wants (cut_off is.marks) step.First step.First is.marks (generating t.command.items asked generate.First) _ log t.command.items refl
-trading_shows t trade trading.Online log rest is = is.passed []
-trading_shows t trade trading.Authenticate log rest is =
-    is.passed [] ∙ wants (cut_off is.marks) step.Authenticate step.Authenticate is.marks (authenticating t.command.items) _ log t.command.items refl
-trading_shows t trade (trading.ScriptBefore s) log rest is =
-    is.passed [] ∙ wants (cut_off is.marks) step.Script step.Script is.marks (running_rest s.running) _ log t.command.items is.shows
-trading_shows t trade (trading.Second s) log rest is =
-    is.passed [] ∙ wants (cut_off is.marks) step.Second step.Second is.marks (generating t.command.items s.asked generate.Second) _ log t.command.items refl
-trading_shows t trade (trading.ScriptBehind s ending) log rest is =
-    is.passed [] ∙ wants (left_script ending (drop s.next (templates 0x72 t.reply.scripts)) is.marks) step.Script step.Script is.marks (running_rest s.running) _ log t.command.items is.shows
-trading_shows t trade (trading.Over ending) log rest is = is.passed []
+trading_shows t transaction (trading.Verify v) log rest is =
+    is.passed [] ∙ wants (cut_off is.steps_done) step.Verify step.Verify is.steps_done (verifying_rest v) _ log t.command.items is.shows
+trading_shows t transaction (trading.Risk j) log rest is =
+    is.passed [] ∙ wants (cut_off is.steps_done) step.Risk step.Risk is.steps_done (judging_rest j) _ log t.command.items is.shows
+trading_shows t transaction (trading.First asked) log rest is =
+    is.passed [] ∙ wants (cut_off is.steps_done) step.First step.First is.steps_done (generating t.command.items asked generate.First) _ log t.command.items refl
+trading_shows t transaction trading.Online log rest is = is.passed []
+trading_shows t transaction trading.Authenticate log rest is =
+    is.passed [] ∙ wants (cut_off is.steps_done) step.Authenticate step.Authenticate is.steps_done (authenticating t.command.items) _ log t.command.items refl
+trading_shows t transaction (trading.ScriptBefore s) log rest is =
+    is.passed [] ∙ wants (cut_off is.steps_done) step.Script step.Script is.steps_done (script_rest t.running) _ log t.command.items is.shows
+trading_shows t transaction (trading.Second s) log rest is =
+    is.passed [] ∙ wants (cut_off is.steps_done) step.Second step.Second is.steps_done (generating t.command.items s.asked generate.Second) _ log t.command.items refl
+trading_shows t transaction (trading.ScriptBehind s ending) log rest is =
+    is.passed [] ∙ wants (left_script ending (drop s.next (templates_of_tag 0x72 t.reply.scripts)) is.steps_done) step.Script step.Script is.steps_done (script_rest t.running) _ log t.command.items is.shows
+trading_shows t transaction (trading.Over ending) log rest is = is.passed []
 
 -- what the dialogue does next is what the stage does, and the card that it read is the kernel's
-pub record ShownAt (k : KernelData) (s : Stage) (standing : Standing Mark) : Type 0 where
-  pub marks : List Mark
-  pub is : standing ≡ stands marks (stage_deed k.table s)
-  pub read : latest card_of None marks ≡ k.card
+pub record ShownAt (k : KernelData) (s : Stage) (standing : Standing StepResult) : Type 0 where
+  pub steps_done : List StepResult
+  pub is : standing ≡ stands steps_done (stage_deed k.table s)
+  pub read : latest sets_card None steps_done ≡ k.card
 
-pub stage_shows : (k : KernelData) → (s : Stage) → (log : List Logged) → (rest : List Reply → Standing Mark) → StageFits k.table k.card s → StageGoes k.table k.card s log rest → ShownAt k s (rest [])
+pub stage_shows : (k : KernelData) → (s : Stage) → (log : List Logged) → (rest : List Reply → Standing StepResult) → StageFits k.table k.card s → StageGoes k.table k.card s log rest → ShownAt k s (rest [])
 stage_shows k (stage.Opening s) log rest fits goes = record {
-  marks = [];
+  steps_done = [];
   is = opening_shows k.table s log rest goes;
   read = sym fits.1;
 }
 stage_shows k (stage.Trading at) log rest fits goes = record {
-  marks = goes.stands.marks;
-  is = trading_shows k.table (record { deal = deal_in k; row = at.row.now; card = goes.card }) at.trading log rest goes.stands;
+  steps_done = goes.stands.steps_done;
+  is = trading_shows k.table (record { outset = outset_in k; row = at.row.now; card = goes.card }) at.trading log rest goes.stands;
   read = goes.stands.read ∙ sym goes.card_is;
 }
 
-pub kernel_shows : (k : KernelData) → (replies : List Reply) → KernelFits k → KernelStands k replies → ShownAt k k.stage (dialogue (deal_in k) replies)
+pub kernel_shows : (k : KernelData) → (replies : List Reply) → KernelFits k → KernelStands k replies → ShownAt k k.stage (dialogue (outset_in k) replies)
 kernel_shows k replies fits is =
-    let shown = stage_shows k k.stage is.log (λ later. dialogue (deal_in k) (replies ++ later)) fits.stage is.goes in
-    record { marks = shown.marks; is = ap (λ (all : List Reply). dialogue (deal_in k) all) (sym (append-nil replies)) ∙ shown.is; read = shown.read }
+    let shown = stage_shows k k.stage is.log (λ later. dialogue (outset_in k) (replies ++ later)) fits.stage is.goes in
+    record { steps_done = shown.steps_done; is = ap (λ (all : List Reply). dialogue (outset_in k) all) (sym (append-nil replies)) ∙ shown.is; read = shown.read }
 
 -- what it does next, as the kernel names it
 pub opening_deed_next : (t : Table) → (s : Opening) → deed_next (opening_deed t s) ≡ opening_next s
@@ -126,10 +125,10 @@ pub stage_deed_next : (t : Table) → (s : Stage) → deed_next (stage_deed t s)
 stage_deed_next t (stage.Opening s) = opening_deed_next t s
 stage_deed_next t (stage.Trading at) = trading_deed_next t at.trading
 
-pub next_is_told : (k : KernelData) → (replies : List Reply) → KernelFits k → KernelStands k replies → next_of k ≡ told_next (dialogue (deal_in k) replies)
+pub next_is_told : (k : KernelData) → (replies : List Reply) → KernelFits k → KernelStands k replies → kernel_next k ≡ standing_next (dialogue (outset_in k) replies)
 next_is_told k replies fits is =
     let shown = kernel_shows k replies fits is in
-    sym (stage_deed_next k.table k.stage) ∙ ap (λ (standing : Standing Mark). told_next standing) (sym shown.is)
+    sym (stage_deed_next k.table k.stage) ∙ ap (λ (standing : Standing StepResult). standing_next standing) (sym shown.is)
 
 opening_bytes : (t : Table) → (s : Opening) → deed_bytes (opening_deed t s) ≡ bytes_by t (opening_next s)
 opening_bytes t (opening.Directory s) = refl
@@ -153,12 +152,12 @@ stage_bytes : (t : Table) → (s : Stage) → deed_bytes (stage_deed t s) ≡ by
 stage_bytes t (stage.Opening s) = opening_bytes t s
 stage_bytes t (stage.Trading at) = trading_bytes t at.trading
 
-pub bytes_are_told : (k : KernelData) → (replies : List Reply) → KernelFits k → KernelStands k replies → bytes_by k.table (next_of k) ≡ told_bytes (dialogue (deal_in k) replies)
+pub bytes_are_told : (k : KernelData) → (replies : List Reply) → KernelFits k → KernelStands k replies → bytes_by k.table (kernel_next k) ≡ told_bytes (dialogue (outset_in k) replies)
 bytes_are_told k replies fits is =
     let shown = kernel_shows k replies fits is in
-    sym (stage_bytes k.table k.stage) ∙ ap (λ (standing : Standing Mark). told_bytes standing) (sym shown.is)
+    sym (stage_bytes k.table k.stage) ∙ ap (λ (standing : Standing StepResult). told_bytes standing) (sym shown.is)
 
-pub card_is_told : (k : KernelData) → (replies : List Reply) → KernelFits k → KernelStands k replies → k.card ≡ latest card_of None (dialogue (deal_in k) replies).marks
+pub card_is_told : (k : KernelData) → (replies : List Reply) → KernelFits k → KernelStands k replies → k.card ≡ latest sets_card None (dialogue (outset_in k) replies).steps_done
 card_is_told k replies fits is =
     let shown = kernel_shows k replies fits is in
-    sym shown.read ∙ ap (λ (standing : Standing Mark). latest card_of None standing.marks) (sym shown.is)
+    sym shown.read ∙ ap (λ (standing : Standing StepResult). latest sets_card None standing.steps_done) (sym shown.is)

@@ -17,89 +17,89 @@ use Rattle.emv_dict.specs.declared.ending.Step.{Step}
 use Rattle.emv_dict.specs.declared.ending.Step.TheVariants as step
 use Rattle.emv_dict.specs.declared.purchase.AidRow.{AidRow}
 use Rattle.emv_dict.specs.declared.purchase.Logged.{Logged}
-use Rattle.kernel.specs.Course.{Standing, Rest, stands, by_progress, settled, card_step, cut_off, host_step}
-use Rattle.kernel.specs.Dialogue.{Trade, all_failed, left_script, scripts_behind, second, scripts_before, authentication, authentication_by, has_authentication, unable_online, kind_unable, reply_read, replied, is_offline_only, first_answered, first, analysis, risk, verification, restrictions, read, granted, initiation, opened, candidates_left, dialogue, decision, kind_for, kind_wanted}
+use Rattle.kernel.specs.StepsInTurn.{Standing, Rest, stands, by_progress, then_step, card_step, cut_off, host_step}
+use Rattle.kernel.specs.Dialogue.{TransactionData, all_failed, left_script, scripts_behind, second, scripts_before, issuer_authentication, authentication_by, has_authentication, unable_online, kind_unable, reply_read, replied, is_offline_only, first_answered, first, analysis, risk, verification, restrictions, read, granted, initiation, initiation_or, candidates_left, dialogue, decision, kind_for, kind_wanted}
 use Rattle.kernel.specs.Ended.{EndData, end_of, end_with, capture, presentment, reversal}
-use Rattle.kernel.specs.Laws.{HostTold, asks_online, is_request, is_unsent, is_sent, is_refused, asks_host, approves}
+use Rattle.kernel.specs.Laws.{HostTold, asks_online, is_online_request, is_unsent, is_sent, is_reply_refused, asks_host, is_approved_ending}
 use Rattle.kernel.specs.Reply.{Reply, CardSaid, CardGone, HostSaid, HostSilent, Deed, ToCard, ToHost, Over}
 use Rattle.kernel.specs.declared.stage.OnlineOutcome.{OnlineOutcome}
 use Rattle.kernel.specs.declared.stage.OnlineOutcome.TheVariants.{Replied, Unable}
 use Rattle.object_lists.specs.CardRead.{ReadCard}
-use Rattle.online_step.specs.Authenticate.{authenticated}
+use Rattle.online_step.specs.Authenticate.{authentication_step}
 use Rattle.read_records.specs.Options.{Opened}
 use Rattle.script_run.specs.Ran.{template_ran, no_script}
-use Rattle.terminal_state.specs.Marks.{Mark, MomentData, moment, latest, open_of, counter_of, ac_of, card_of, HasVerified, HasJudged, HasAnalysed, HasFirst, HasReply, WasUnable, HasAuthenticated, HasRunBefore, HasSecond, HasRunBehind}
-use Rattle.terminal_state.specs.Scripts.{templates, kept}
-use Rattle.terminal_state.specs.Terminal.{Deal}
-use Rattle.terminal_state.specs.declared.moment.OnlineRequest.{OnlineRequest}
-use Rattle.terminal_state.specs.declared.moment.OnlineRequest.TheVariants.{Sent, NotSent}
+use Rattle.terminal_state.specs.StepResults.{StepResult, StateSoFarData, state_so_far, latest, open_of, sets_counter, sets_ac, sets_card, HasVerified, HasJudged, HasAnalysed, HasFirst, HasReply, WasUnable, HasAuthenticated, HasRunBefore, HasSecond, HasRunBehind}
+use Rattle.terminal_state.specs.Scripts.{templates_of_tag, kept_host_reply}
+use Rattle.terminal_state.specs.Terminal.{Outset}
+use Rattle.terminal_state.specs.declared.state_so_far.OnlineRequest.{OnlineRequest}
+use Rattle.terminal_state.specs.declared.state_so_far.OnlineRequest.TheVariants.{Sent, NotSent}
 
-abbrev offline : Deal → Bool
-offline deal = is_offline_only deal.settings.kind
+abbrev offline : Outset → Bool
+offline outset = is_offline_only outset.settings.kind
 
 abbrev pub deed_approves : Deed → Bool
 deed_approves (ToCard command) = false
 deed_approves (ToHost message) = false
-deed_approves (Over ending) = approves ending
+deed_approves (Over ending) = is_approved_ending ending
 
 -- a request may have been approved
-abbrev IsOpen : List Mark → Type 0
-IsOpen marks = latest open_of false marks ≡ (list_any is_sent marks && not (list_any is_refused marks))
+abbrev IsOpen : List StepResult → Type 0
+IsOpen steps_done = latest open_of false steps_done ≡ (list_any is_sent steps_done && not (list_any is_reply_refused steps_done))
 
-abbrev IsUnsent : Deal → List Mark → Type 0
-IsUnsent deal marks = list_any is_unsent marks ≡ (list_any is_request marks && offline deal)
+abbrev IsUnsent : Outset → List StepResult → Type 0
+IsUnsent outset steps_done = list_any is_unsent steps_done ≡ (list_any is_online_request steps_done && offline outset)
 
-abbrev HasCard : List Mark → Type 0
-HasCard marks = is_some (latest card_of None marks) ≡ true
+abbrev HasCard : List StepResult → Type 0
+HasCard steps_done = is_some (latest sets_card None steps_done) ≡ true
 
-abbrev HasCounter : List Mark → Type 0
-HasCounter marks = is_some (latest counter_of None marks) ≡ true
+abbrev HasCounter : List StepResult → Type 0
+HasCounter steps_done = is_some (latest sets_counter None steps_done) ≡ true
 
-abbrev HasAc : List Mark → Type 0
-HasAc marks = is_some (latest ac_of None marks) ≡ true
+abbrev HasAc : List StepResult → Type 0
+HasAc steps_done = is_some (latest sets_ac None steps_done) ≡ true
 
 -- what holds of each place where a dialogue stands
-abbrev Told : Deal → Standing Mark → Type 0
-Told deal s =
-    IsUnsent deal s.marks
-    × (asks_host s.deed ≡ true → (list_any is_request s.marks ≡ true) × (offline deal ≡ false) × (list_any is_sent s.marks ≡ false))
-    × IsOpen s.marks
-    × (list_any is_sent s.marks ≡ true → HasCounter s.marks × HasCard s.marks)
-    × (deed_approves s.deed ≡ true → HasAc s.marks × HasCard s.marks)
+abbrev Told : Outset → Standing StepResult → Type 0
+Told outset s =
+    IsUnsent outset s.steps_done
+    × (asks_host s.deed ≡ true → (list_any is_online_request s.steps_done ≡ true) × (offline outset ≡ false) × (list_any is_sent s.steps_done ≡ false))
+    × IsOpen s.steps_done
+    × (list_any is_sent s.steps_done ≡ true → HasCounter s.steps_done × HasCard s.steps_done)
+    × (deed_approves s.deed ≡ true → HasAc s.steps_done × HasCard s.steps_done)
 
 -- before the card's first cryptogram
-abbrev Before : List Mark → Type 0
-Before marks =
-    (list_any is_request marks ≡ false) × (list_any is_unsent marks ≡ false) × (list_any is_sent marks ≡ false) × (list_any is_refused marks ≡ false)
-    × (latest open_of false marks ≡ false) × HasCard marks
+abbrev Before : List StepResult → Type 0
+Before steps_done =
+    (list_any is_online_request steps_done ≡ false) × (list_any is_unsent steps_done ≡ false) × (list_any is_sent steps_done ≡ false) × (list_any is_reply_refused steps_done ≡ false)
+    × (latest open_of false steps_done ≡ false) × HasCard steps_done
 
 -- where the card asks to go online
-abbrev Requested : List Mark → Type 0
-Requested marks =
-    (list_any is_request marks ≡ true) × (list_any is_unsent marks ≡ false) × (list_any is_sent marks ≡ false) × (list_any is_refused marks ≡ false)
-    × (latest open_of false marks ≡ false) × HasCounter marks × HasAc marks × HasCard marks
+abbrev Requested : List StepResult → Type 0
+Requested steps_done =
+    (list_any is_online_request steps_done ≡ true) × (list_any is_unsent steps_done ≡ false) × (list_any is_sent steps_done ≡ false) × (list_any is_reply_refused steps_done ≡ false)
+    × (latest open_of false steps_done ≡ false) × HasCounter steps_done × HasAc steps_done × HasCard steps_done
 
 -- behind that
-abbrev After : Deal → List Mark → Type 0
-After deal marks = IsUnsent deal marks × IsOpen marks × HasCounter marks × HasAc marks × HasCard marks
+abbrev After : Outset → List StepResult → Type 0
+After outset steps_done = IsUnsent outset steps_done × IsOpen steps_done × HasCounter steps_done × HasAc steps_done × HasCard steps_done
 
-never : {A : Type 0} (b : Bool) → b ≡ false → b ≡ true → A
+pub never : {A : Type 0} (b : Bool) → b ≡ false → b ≡ true → A
 never b none is = let clash : false ≡ true = sym none ∙ is in absurd (cc clash)
 
-after_told : (deal : Deal) (marks : List Mark) → After deal marks → (deed : Deed) → asks_host deed ≡ false → Told deal (stands marks deed)
-after_told deal marks a deed none = (a.0, λ is. never (asks_host deed) none is, a.1, λ sent. (a.2, a.4), λ good. (a.3, a.4))
+after_told : (outset : Outset) (steps_done : List StepResult) → After outset steps_done → (deed : Deed) → asks_host deed ≡ false → Told outset (stands steps_done deed)
+after_told outset steps_done a deed none = (a.0, λ is. never (asks_host deed) none is, a.1, λ sent. (a.2, a.4), λ good. (a.3, a.4))
 
-before_told : (deal : Deal) (marks : List Mark) → Before marks → (deed : Deed) → asks_host deed ≡ false → deed_approves deed ≡ false → Told deal (stands marks deed)
-before_told deal marks b deed none plain = (
+before_told : (outset : Outset) (steps_done : List StepResult) → Before steps_done → (deed : Deed) → asks_host deed ≡ false → deed_approves deed ≡ false → Told outset (stands steps_done deed)
+before_told outset steps_done b deed none plain = (
   rw (b.1, b.0) refl,
   λ is. never (asks_host deed) none is,
   rw (b.4, b.2) refl,
-  λ sent. never (list_any is_sent marks) b.2 sent,
+  λ sent. never (list_any is_sent steps_done) b.2 sent,
   λ good. never (deed_approves deed) plain good,
 )
 
-opening_told : (deal : Deal) (deed : Deed) → asks_host deed ≡ false → deed_approves deed ≡ false → Told deal (stands [] deed)
-opening_told deal deed none plain = (
+opening_told : (outset : Outset) (deed : Deed) → asks_host deed ≡ false → deed_approves deed ≡ false → Told outset (stands [] deed)
+opening_told outset deed none plain = (
   refl,
   λ is. never (asks_host deed) none is,
   refl,
@@ -107,19 +107,19 @@ opening_told deal deed none plain = (
   λ good. never (deed_approves deed) plain good,
 )
 
-module _ {A : Type 0} (left : Step → (List (List ℕ) → Progress A) → Standing Mark) (step : Step) (marks : List Mark) (next : A → Rest Mark) (Q : Standing Mark → Type 0)
-    (asks : (command : List ℕ) → Q (stands marks (ToCard command)))
-    (ends : (ending : Ending) → approves ending ≡ false → Q (stands marks (Over ending)))
+module _ {A : Type 0} (left : Step → (List (List ℕ) → Progress A) → Standing StepResult) (step : Step) (steps_done : List StepResult) (next : A → Rest StepResult) (Q : Standing StepResult → Type 0)
+    (asks : (command : List ℕ) → Q (stands steps_done (ToCard command)))
+    (ends : (ending : Ending) → is_approved_ending ending ≡ false → Q (stands steps_done (Over ending)))
     (leaves : (cut : Step) (course : List (List ℕ) → Progress A) → Q (left cut course))
     (keeps : (value : A) (log : List Logged) (replies : List Reply) → Q (next value log replies)) where
-  settle_all : (log : List Logged) (replies : List Reply) (wanted : List ℕ → Standing Mark) (progress : Progress A) → ((command : List ℕ) → Q (wanted command))
-      → Q (settled step marks next log replies wanted progress)
+  settle_all : (log : List Logged) (replies : List Reply) (wanted : List ℕ → Standing StepResult) (progress : Progress A) → ((command : List ℕ) → Q (wanted command))
+      → Q (then_step step steps_done next log replies wanted progress)
   settle_all log replies wanted (Wants command) wants = wants command
   settle_all log replies wanted (Stopped cause) wants = ends (Terminated step cause) refl
   settle_all log replies wanted (Done value rest) wants = keeps value log replies
 
   -- what holds of each place at which a step may stand
-  pub card_all : (cut : Step) (course : List (List ℕ) → Progress A) (log : List Logged) (replies : List Reply) → Q (card_step left cut step marks course next log replies)
+  pub card_all : (cut : Step) (course : List (List ℕ) → Progress A) (log : List Logged) (replies : List Reply) → Q (card_step left cut step steps_done course next log replies)
   unfolding card_step
   card_all cut course log [] = settle_all log [] _ (course []) asks
   card_all cut course log (CardSaid answer now ∷ replies) =
@@ -128,179 +128,179 @@ module _ {A : Type 0} (left : Step → (List (List ℕ) → Progress A) → Stan
   card_all cut course log (HostSaid said ∷ replies) = settle_all log (HostSaid said ∷ replies) _ (course []) asks
   card_all cut course log (HostSilent ∷ replies) = settle_all log (HostSilent ∷ replies) _ (course []) asks
 
-pub host_all : (marks : List Mark) (message : List ℕ) (next : Option (List ℕ) → Rest Mark) (Q : Standing Mark → Type 0) → Q (stands marks (ToHost message))
+pub host_all : (steps_done : List StepResult) (message : List ℕ) (next : Option (List ℕ) → Rest StepResult) (Q : Standing StepResult → Type 0) → Q (stands steps_done (ToHost message))
     → ((heard : Option (List ℕ)) (log : List Logged) (replies : List Reply) → Q (next heard log replies))
-    → (log : List Logged) (replies : List Reply) → Q (host_step marks message next log replies)
+    → (log : List Logged) (replies : List Reply) → Q (host_step steps_done message next log replies)
 unfolding host_step
-host_all marks message next Q asks keeps log [] = asks
-host_all marks message next Q asks keeps log (CardSaid answer now ∷ replies) = asks
-host_all marks message next Q asks keeps log (CardGone ∷ replies) = asks
-host_all marks message next Q asks keeps log (HostSaid said ∷ replies) = keeps (Some said) log replies
-host_all marks message next Q asks keeps log (HostSilent ∷ replies) = keeps None log replies
+host_all steps_done message next Q asks keeps log [] = asks
+host_all steps_done message next Q asks keeps log (CardSaid answer now ∷ replies) = asks
+host_all steps_done message next Q asks keeps log (CardGone ∷ replies) = asks
+host_all steps_done message next Q asks keeps log (HostSaid said ∷ replies) = keeps (Some said) log replies
+host_all steps_done message next Q asks keeps log (HostSilent ∷ replies) = keeps None log replies
 
-failed_after : (deal : Deal) (others : List (List ℕ)) (marks : List Mark) → After deal marks → After deal (all_failed others marks)
-failed_after deal [] marks a = a
-failed_after deal (template ∷ others) marks a = failed_after deal others (HasRunBehind no_script ∷ marks) a
+failed_after : (outset : Outset) (others : List (List ℕ)) (steps_done : List StepResult) → After outset steps_done → After outset (all_failed others steps_done)
+failed_after outset [] steps_done a = a
+failed_after outset (template ∷ others) steps_done a = failed_after outset others (HasRunBehind no_script ∷ steps_done) a
 
-left_told : (deal : Deal) (ending : Ending) (others : List (List ℕ)) (marks : List Mark) → After deal marks → (progress : Progress (List ℕ))
-    → Told deal (by_progress (λ command. stands marks (Over ending)) (λ cause. stands marks (Over ending)) (λ result. stands (all_failed others (HasRunBehind result ∷ marks)) (Over ending)) progress)
-left_told deal ending others marks a (Wants command) = after_told deal marks a (Over ending) refl
-left_told deal ending others marks a (Stopped cause) = after_told deal marks a (Over ending) refl
-left_told deal ending others marks a (Done result rest) =
-    after_told deal (all_failed others (HasRunBehind result ∷ marks)) (failed_after deal others (HasRunBehind result ∷ marks) a) (Over ending) refl
+left_told : (outset : Outset) (ending : Ending) (others : List (List ℕ)) (steps_done : List StepResult) → After outset steps_done → (progress : Progress (List ℕ))
+    → Told outset (by_progress (λ command. stands steps_done (Over ending)) (λ cause. stands steps_done (Over ending)) (λ result. stands (all_failed others (HasRunBehind result ∷ steps_done)) (Over ending)) progress)
+left_told outset ending others steps_done a (Wants command) = after_told outset steps_done a (Over ending) refl
+left_told outset ending others steps_done a (Stopped cause) = after_told outset steps_done a (Over ending) refl
+left_told outset ending others steps_done a (Done result rest) =
+    after_told outset (all_failed others (HasRunBehind result ∷ steps_done)) (failed_after outset others (HasRunBehind result ∷ steps_done) a) (Over ending) refl
 
-scripts_behind_told : (deal : Deal) (ending : Ending) (scripts : List (List ℕ)) (marks : List Mark) → After deal marks → (log : List Logged) (replies : List Reply)
-    → Told deal (scripts_behind ending scripts marks log replies)
+scripts_behind_told : (outset : Outset) (ending : Ending) (scripts : List (List ℕ)) (steps_done : List StepResult) → After outset steps_done → (log : List Logged) (replies : List Reply)
+    → Told outset (scripts_behind ending scripts steps_done log replies)
 unfolding scripts_behind
-scripts_behind_told deal ending [] marks a log replies = after_told deal marks a (Over ending) refl
-scripts_behind_told deal ending (template ∷ others) marks a log replies =
-    card_all (left_script ending others marks) step.Script marks (λ result. scripts_behind ending others (HasRunBehind result ∷ marks)) (Told deal)
-    (λ command. after_told deal marks a (ToCard command) refl)
-    (λ at plain. after_told deal marks a (Over at) refl)
-    (λ cut course. left_told deal ending others marks a (course ([] ∷ [])))
-    (λ result. scripts_behind_told deal ending others (HasRunBehind result ∷ marks) a)
+scripts_behind_told outset ending [] steps_done a log replies = after_told outset steps_done a (Over ending) refl
+scripts_behind_told outset ending (template ∷ others) steps_done a log replies =
+    card_all (left_script ending others steps_done) step.Script steps_done (λ result. scripts_behind ending others (HasRunBehind result ∷ steps_done)) (Told outset)
+    (λ command. after_told outset steps_done a (ToCard command) refl)
+    (λ at plain. after_told outset steps_done a (Over at) refl)
+    (λ cut course. left_told outset ending others steps_done a (course ([] ∷ [])))
+    (λ result. scripts_behind_told outset ending others (HasRunBehind result ∷ steps_done) a)
     step.Script (template_ran template) log replies
 
-second_told : (trade : Trade) (outcome : OnlineOutcome) (asked : Kind) (behind : List (List ℕ)) (marks : List Mark) → After trade.deal marks → (log : List Logged) (replies : List Reply)
-    → Told trade.deal (second trade outcome asked behind marks log replies)
+second_told : (transaction : TransactionData) (outcome : OnlineOutcome) (asked : Kind) (behind : List (List ℕ)) (steps_done : List StepResult) → After transaction.outset steps_done → (log : List Logged) (replies : List Reply)
+    → Told transaction.outset (second transaction outcome asked behind steps_done log replies)
 unfolding second
-second_told trade outcome asked behind marks a log replies =
-    card_all (cut_off marks) step.Second marks (λ ac. scripts_behind (decision outcome ac.kind) behind (HasSecond ac ∷ marks)) (Told trade.deal)
-    (λ command. after_told trade.deal marks a (ToCard command) refl)
-    (λ at plain. after_told trade.deal marks a (Over at) refl)
-    (λ cut course. after_told trade.deal marks a (Over (CutOff cut)) refl)
-    (λ ac. scripts_behind_told trade.deal (decision outcome ac.kind) behind (HasSecond ac ∷ marks) (a.0, a.1, a.2, refl, a.4))
+second_told transaction outcome asked behind steps_done a log replies =
+    card_all (cut_off steps_done) step.Second steps_done (λ ac. scripts_behind (decision outcome ac.kind) behind (HasSecond ac ∷ steps_done)) (Told transaction.outset)
+    (λ command. after_told transaction.outset steps_done a (ToCard command) refl)
+    (λ at plain. after_told transaction.outset steps_done a (Over at) refl)
+    (λ cut course. after_told transaction.outset steps_done a (Over (CutOff cut)) refl)
+    (λ ac. scripts_behind_told transaction.outset (decision outcome ac.kind) behind (HasSecond ac ∷ steps_done) (a.0, a.1, a.2, refl, a.4))
     step.Second _ log replies
 
-scripts_before_told : (trade : Trade) (reply : ReplyData) (scripts : List (List ℕ)) (marks : List Mark) → After trade.deal marks → (log : List Logged) (replies : List Reply)
-    → Told trade.deal (scripts_before trade reply scripts marks log replies)
+scripts_before_told : (transaction : TransactionData) (reply : ReplyData) (scripts : List (List ℕ)) (steps_done : List StepResult) → After transaction.outset steps_done → (log : List Logged) (replies : List Reply)
+    → Told transaction.outset (scripts_before transaction reply scripts steps_done log replies)
 unfolding scripts_before
-scripts_before_told trade reply [] marks a log replies = second_told trade Replied (kind_for reply.code) (templates 0x72 reply.scripts) marks a log replies
-scripts_before_told trade reply (template ∷ others) marks a log replies =
-    card_all (cut_off marks) step.Script marks (λ result. scripts_before trade reply others (HasRunBefore result ∷ marks)) (Told trade.deal)
-    (λ command. after_told trade.deal marks a (ToCard command) refl)
-    (λ at plain. after_told trade.deal marks a (Over at) refl)
-    (λ cut course. after_told trade.deal marks a (Over (CutOff cut)) refl)
-    (λ result. scripts_before_told trade reply others (HasRunBefore result ∷ marks) a)
+scripts_before_told transaction reply [] steps_done a log replies = second_told transaction Replied (kind_for reply.code) (templates_of_tag 0x72 reply.scripts) steps_done a log replies
+scripts_before_told transaction reply (template ∷ others) steps_done a log replies =
+    card_all (cut_off steps_done) step.Script steps_done (λ result. scripts_before transaction reply others (HasRunBefore result ∷ steps_done)) (Told transaction.outset)
+    (λ command. after_told transaction.outset steps_done a (ToCard command) refl)
+    (λ at plain. after_told transaction.outset steps_done a (Over at) refl)
+    (λ cut course. after_told transaction.outset steps_done a (Over (CutOff cut)) refl)
+    (λ result. scripts_before_told transaction reply others (HasRunBefore result ∷ steps_done) a)
     step.Script (template_ran template) log replies
 
-authentication_by_told : (trade : Trade) (reply : ReplyData) (marks : List Mark) → After trade.deal marks → (has : Bool) (auth : Option (List ℕ)) (log : List Logged) (replies : List Reply)
-    → Told trade.deal (authentication_by trade reply marks has auth log replies)
-authentication_by_told trade reply marks a has None log replies = scripts_before_told trade reply (templates 0x71 reply.scripts) marks a log replies
-authentication_by_told trade reply marks a false (Some value) log replies = scripts_before_told trade reply (templates 0x71 reply.scripts) marks a log replies
-authentication_by_told trade reply marks a true (Some value) log replies =
-    card_all (cut_off marks) step.Authenticate marks (λ good. scripts_before trade reply (templates 0x71 reply.scripts) (HasAuthenticated good ∷ marks)) (Told trade.deal)
-    (λ command. after_told trade.deal marks a (ToCard command) refl)
-    (λ at plain. after_told trade.deal marks a (Over at) refl)
-    (λ cut course. after_told trade.deal marks a (Over (CutOff cut)) refl)
-    (λ good. scripts_before_told trade reply (templates 0x71 reply.scripts) (HasAuthenticated good ∷ marks) a)
-    step.Authenticate (authenticated value) log replies
+authentication_by_told : (transaction : TransactionData) (reply : ReplyData) (steps_done : List StepResult) → After transaction.outset steps_done → (has : Bool) (auth : Option (List ℕ)) (log : List Logged) (replies : List Reply)
+    → Told transaction.outset (authentication_by transaction reply steps_done has auth log replies)
+authentication_by_told transaction reply steps_done a has None log replies = scripts_before_told transaction reply (templates_of_tag 0x71 reply.scripts) steps_done a log replies
+authentication_by_told transaction reply steps_done a false (Some value) log replies = scripts_before_told transaction reply (templates_of_tag 0x71 reply.scripts) steps_done a log replies
+authentication_by_told transaction reply steps_done a true (Some value) log replies =
+    card_all (cut_off steps_done) step.Authenticate steps_done (λ good. scripts_before transaction reply (templates_of_tag 0x71 reply.scripts) (HasAuthenticated good ∷ steps_done)) (Told transaction.outset)
+    (λ command. after_told transaction.outset steps_done a (ToCard command) refl)
+    (λ at plain. after_told transaction.outset steps_done a (Over at) refl)
+    (λ cut course. after_told transaction.outset steps_done a (Over (CutOff cut)) refl)
+    (λ good. scripts_before_told transaction reply (templates_of_tag 0x71 reply.scripts) (HasAuthenticated good ∷ steps_done) a)
+    step.Authenticate (authentication_step value) log replies
 
-authentication_told : (trade : Trade) (reply : ReplyData) (marks : List Mark) → After trade.deal marks → (log : List Logged) (replies : List Reply)
-    → Told trade.deal (authentication trade reply marks log replies)
-unfolding authentication
-authentication_told trade reply marks a = authentication_by_told trade reply marks a (has_authentication trade.card) reply.auth
+authentication_told : (transaction : TransactionData) (reply : ReplyData) (steps_done : List StepResult) → After transaction.outset steps_done → (log : List Logged) (replies : List Reply)
+    → Told transaction.outset (issuer_authentication transaction reply steps_done log replies)
+unfolding issuer_authentication
+authentication_told transaction reply steps_done a = authentication_by_told transaction reply steps_done a (has_authentication transaction.card) reply.auth
 
-unable_told : (trade : Trade) (request : OnlineRequest) (marks : List Mark) → After trade.deal (WasUnable request (kind_unable trade marks) ∷ marks) → (log : List Logged) (replies : List Reply)
-    → Told trade.deal (unable_online trade request marks log replies)
+unable_told : (transaction : TransactionData) (request : OnlineRequest) (steps_done : List StepResult) → After transaction.outset (WasUnable request (kind_unable transaction steps_done) ∷ steps_done) → (log : List Logged) (replies : List Reply)
+    → Told transaction.outset (unable_online transaction request steps_done log replies)
 unfolding unable_online
-unable_told trade request marks a = second_told trade Unable (kind_unable trade marks) [] (WasUnable request (kind_unable trade marks) ∷ marks) a
+unable_told transaction request steps_done a = second_told transaction Unable (kind_unable transaction steps_done) [] (WasUnable request (kind_unable transaction steps_done) ∷ steps_done) a
 
 -- a terminal that never goes online sends nothing
-unsent_after : (deal : Deal) (marks : List Mark) (wanted : Kind) → Requested marks → offline deal ≡ true → After deal (WasUnable NotSent wanted ∷ marks)
-unsent_after deal marks wanted r never_online = (rw (r.0, never_online) refl, rw r.2 refl, r.5, r.6, r.7)
+unsent_after : (outset : Outset) (steps_done : List StepResult) (wanted : Kind) → Requested steps_done → offline outset ≡ true → After outset (WasUnable NotSent wanted ∷ steps_done)
+unsent_after outset steps_done wanted r never_online = (rw (r.0, never_online) refl, rw r.2 refl, r.5, r.6, r.7)
 
-sent_after : (deal : Deal) (marks : List Mark) (wanted : Kind) → Requested marks → offline deal ≡ false → After deal (WasUnable Sent wanted ∷ marks)
-sent_after deal marks wanted r goes_online = (rw (r.1, r.0, goes_online) refl, rw r.3 refl, r.5, r.6, r.7)
+sent_after : (outset : Outset) (steps_done : List StepResult) (wanted : Kind) → Requested steps_done → offline outset ≡ false → After outset (WasUnable Sent wanted ∷ steps_done)
+sent_after outset steps_done wanted r goes_online = (rw (r.1, r.0, goes_online) refl, rw r.3 refl, r.5, r.6, r.7)
 
 again : (b : Bool) → b ≡ (true && not (not b || false))
 again true = refl
 again false = refl
 
-reply_after : (deal : Deal) (marks : List Mark) (reply : ReplyData) → Requested marks → offline deal ≡ false → After deal (HasReply reply ∷ marks)
-reply_after deal marks reply r goes_online = (rw (r.1, r.0, goes_online) refl, rw r.3 (again _), r.5, r.6, r.7)
+reply_after : (outset : Outset) (steps_done : List StepResult) (reply : ReplyData) → Requested steps_done → offline outset ≡ false → After outset (HasReply reply ∷ steps_done)
+reply_after outset steps_done reply r goes_online = (rw (r.1, r.0, goes_online) refl, rw r.3 (again _), r.5, r.6, r.7)
 
-reply_told : (trade : Trade) (marks : List Mark) → Requested marks → offline trade.deal ≡ false → (said : Result ReplyData MessageFault) (log : List Logged) (replies : List Reply)
-    → Told trade.deal (reply_read trade marks said log replies)
-reply_told trade marks r goes_online (Ok reply) = authentication_told trade (kept reply) (HasReply reply ∷ marks) (reply_after trade.deal marks reply r goes_online)
-reply_told trade marks r goes_online (Err fault) = unable_told trade Sent marks (sent_after trade.deal marks (kind_unable trade marks) r goes_online)
+reply_told : (transaction : TransactionData) (steps_done : List StepResult) → Requested steps_done → offline transaction.outset ≡ false → (said : Result ReplyData MessageFault) (log : List Logged) (replies : List Reply)
+    → Told transaction.outset (reply_read transaction steps_done said log replies)
+reply_told transaction steps_done r goes_online (Ok reply) = authentication_told transaction (kept_host_reply reply) (HasReply reply ∷ steps_done) (reply_after transaction.outset steps_done reply r goes_online)
+reply_told transaction steps_done r goes_online (Err fault) = unable_told transaction Sent steps_done (sent_after transaction.outset steps_done (kind_unable transaction steps_done) r goes_online)
 
-replied_told : (trade : Trade) (marks : List Mark) → Requested marks → offline trade.deal ≡ false → (heard : Option (List ℕ)) (log : List Logged) (replies : List Reply)
-    → Told trade.deal (replied trade marks heard log replies)
-replied_told trade marks r goes_online None = unable_told trade Sent marks (sent_after trade.deal marks (kind_unable trade marks) r goes_online)
-replied_told trade marks r goes_online (Some said) = reply_told trade marks r goes_online (reply_of said)
+replied_told : (transaction : TransactionData) (steps_done : List StepResult) → Requested steps_done → offline transaction.outset ≡ false → (heard : Option (List ℕ)) (log : List Logged) (replies : List Reply)
+    → Told transaction.outset (replied transaction steps_done heard log replies)
+replied_told transaction steps_done r goes_online None = unable_told transaction Sent steps_done (sent_after transaction.outset steps_done (kind_unable transaction steps_done) r goes_online)
+replied_told transaction steps_done r goes_online (Some said) = reply_told transaction steps_done r goes_online (reply_of said)
 
-asked_told : (deal : Deal) (marks : List Mark) (message : List ℕ) → Requested marks → offline deal ≡ false → Told deal (stands marks (ToHost message))
-asked_told deal marks message r goes_online = (
+asked_told : (outset : Outset) (steps_done : List StepResult) (message : List ℕ) → Requested steps_done → offline outset ≡ false → Told outset (stands steps_done (ToHost message))
+asked_told outset steps_done message r goes_online = (
   rw (r.1, r.0, goes_online) refl,
   λ is. (r.0, goes_online, r.2),
   rw (r.4, r.2) refl,
-  λ sent. never (list_any is_sent marks) r.2 sent,
+  λ sent. never (list_any is_sent steps_done) r.2 sent,
   λ good. never false refl good,
 )
 
-online_by_told : (trade : Trade) (marks : List Mark) (message : List ℕ) → Requested marks → (test : Bool) → offline trade.deal ≡ test → (log : List Logged) (replies : List Reply)
-    → Told trade.deal (let rest : Rest Mark = (if test then unable_online trade NotSent marks else host_step marks message (replied trade marks)) in rest log replies)
-online_by_told trade marks message r true is = unable_told trade NotSent marks (unsent_after trade.deal marks (kind_unable trade marks) r is)
-online_by_told trade marks message r false is =
-    host_all marks message (replied trade marks) (Told trade.deal) (asked_told trade.deal marks message r is) (replied_told trade marks r is)
+online_by_told : (transaction : TransactionData) (steps_done : List StepResult) (message : List ℕ) → Requested steps_done → (test : Bool) → offline transaction.outset ≡ test → (log : List Logged) (replies : List Reply)
+    → Told transaction.outset (let rest : Rest StepResult = (if test then unable_online transaction NotSent steps_done else host_step steps_done message (replied transaction steps_done)) in rest log replies)
+online_by_told transaction steps_done message r true is = unable_told transaction NotSent steps_done (unsent_after transaction.outset steps_done (kind_unable transaction steps_done) r is)
+online_by_told transaction steps_done message r false is =
+    host_all steps_done message (replied transaction steps_done) (Told transaction.outset) (asked_told transaction.outset steps_done message r is) (replied_told transaction steps_done r is)
 
-first_after : (deal : Deal) (ac : AcData) (marks : List Mark) → Before marks → asks_online ac.kind ≡ false → After deal (HasFirst ac ∷ marks)
-first_after deal ac marks b is = (rw (b.1, is, b.0) refl, rw (b.4, b.2) refl, refl, refl, b.5)
+first_after : (outset : Outset) (ac : AcData) (steps_done : List StepResult) → Before steps_done → asks_online ac.kind ≡ false → After outset (HasFirst ac ∷ steps_done)
+first_after outset ac steps_done b is = (rw (b.1, is, b.0) refl, rw (b.4, b.2) refl, refl, refl, b.5)
 
-first_requested : (ac : AcData) (marks : List Mark) → Before marks → asks_online ac.kind ≡ true → Requested (HasFirst ac ∷ marks)
-first_requested ac marks b is = (rw is refl, b.1, b.2, b.3, b.4, refl, refl, b.5)
+first_requested : (ac : AcData) (steps_done : List StepResult) → Before steps_done → asks_online ac.kind ≡ true → Requested (HasFirst ac ∷ steps_done)
+first_requested ac steps_done b is = (rw is refl, b.1, b.2, b.3, b.4, refl, refl, b.5)
 
-first_answered_told : (trade : Trade) (ac : AcData) (marks : List Mark) → Before marks → (kind : Kind) → ac.kind ≡ kind → (log : List Logged) (replies : List Reply)
-    → Told trade.deal (first_answered trade ac (HasFirst ac ∷ marks) kind log replies)
-first_answered_told trade ac marks b Tc is log replies = after_told trade.deal (HasFirst ac ∷ marks) (first_after trade.deal ac marks b (ap asks_online is)) (Over (Approved false)) refl
-first_answered_told trade ac marks b Aac is log replies = after_told trade.deal (HasFirst ac ∷ marks) (first_after trade.deal ac marks b (ap asks_online is)) (Over (Declined false)) refl
-first_answered_told trade ac marks b Arqc is log replies =
-    online_by_told trade (HasFirst ac ∷ marks) _ (first_requested ac marks b (ap asks_online is)) (is_offline_only trade.deal.settings.kind) refl log replies
+first_answered_told : (transaction : TransactionData) (ac : AcData) (steps_done : List StepResult) → Before steps_done → (kind : Kind) → ac.kind ≡ kind → (log : List Logged) (replies : List Reply)
+    → Told transaction.outset (first_answered transaction ac (HasFirst ac ∷ steps_done) kind log replies)
+first_answered_told transaction ac steps_done b Tc is log replies = after_told transaction.outset (HasFirst ac ∷ steps_done) (first_after transaction.outset ac steps_done b (ap asks_online is)) (Over (Approved false)) refl
+first_answered_told transaction ac steps_done b Aac is log replies = after_told transaction.outset (HasFirst ac ∷ steps_done) (first_after transaction.outset ac steps_done b (ap asks_online is)) (Over (Declined false)) refl
+first_answered_told transaction ac steps_done b Arqc is log replies =
+    online_by_told transaction (HasFirst ac ∷ steps_done) _ (first_requested ac steps_done b (ap asks_online is)) (is_offline_only transaction.outset.settings.kind) refl log replies
 
-first_told : (trade : Trade) (asked : Kind) (marks : List Mark) → Before marks → (log : List Logged) (replies : List Reply) → Told trade.deal (first trade asked marks log replies)
+first_told : (transaction : TransactionData) (asked : Kind) (steps_done : List StepResult) → Before steps_done → (log : List Logged) (replies : List Reply) → Told transaction.outset (first transaction asked steps_done log replies)
 unfolding first
-first_told trade asked marks b log replies =
-    card_all (cut_off marks) step.First marks (λ ac. first_answered trade ac (HasFirst ac ∷ marks) ac.kind) (Told trade.deal)
-    (λ command. before_told trade.deal marks b (ToCard command) refl refl)
-    (λ at plain. before_told trade.deal marks b (Over at) refl plain)
-    (λ cut course. before_told trade.deal marks b (Over (CutOff cut)) refl refl)
-    (λ ac. first_answered_told trade ac marks b ac.kind refl)
+first_told transaction asked steps_done b log replies =
+    card_all (cut_off steps_done) step.First steps_done (λ ac. first_answered transaction ac (HasFirst ac ∷ steps_done) ac.kind) (Told transaction.outset)
+    (λ command. before_told transaction.outset steps_done b (ToCard command) refl refl)
+    (λ at plain. before_told transaction.outset steps_done b (Over at) refl plain)
+    (λ cut course. before_told transaction.outset steps_done b (Over (CutOff cut)) refl refl)
+    (λ ac. first_answered_told transaction ac steps_done b ac.kind refl)
     step.First _ log replies
 
-analysis_told : (trade : Trade) (marks : List Mark) → Before marks → (log : List Logged) (replies : List Reply) → Told trade.deal (analysis trade marks log replies)
+analysis_told : (transaction : TransactionData) (steps_done : List StepResult) → Before steps_done → (log : List Logged) (replies : List Reply) → Told transaction.outset (analysis transaction steps_done log replies)
 unfolding analysis
-analysis_told trade marks b = first_told trade (kind_wanted trade marks) (HasAnalysed (kind_wanted trade marks) ∷ marks) b
+analysis_told transaction steps_done b = first_told transaction (kind_wanted transaction steps_done) (HasAnalysed (kind_wanted transaction steps_done) ∷ steps_done) b
 
-risk_told : (trade : Trade) (marks : List Mark) → Before marks → (log : List Logged) (replies : List Reply) → Told trade.deal (risk trade marks log replies)
+risk_told : (transaction : TransactionData) (steps_done : List StepResult) → Before steps_done → (log : List Logged) (replies : List Reply) → Told transaction.outset (risk transaction steps_done log replies)
 unfolding risk
-risk_told trade marks b log replies =
-    card_all (cut_off marks) step.Risk marks (λ judged. analysis trade (HasJudged judged ∷ marks)) (Told trade.deal)
-    (λ command. before_told trade.deal marks b (ToCard command) refl refl)
-    (λ at plain. before_told trade.deal marks b (Over at) refl plain)
-    (λ cut course. before_told trade.deal marks b (Over (CutOff cut)) refl refl)
-    (λ judged. analysis_told trade (HasJudged judged ∷ marks) b)
+risk_told transaction steps_done b log replies =
+    card_all (cut_off steps_done) step.Risk steps_done (λ judged. analysis transaction (HasJudged judged ∷ steps_done)) (Told transaction.outset)
+    (λ command. before_told transaction.outset steps_done b (ToCard command) refl refl)
+    (λ at plain. before_told transaction.outset steps_done b (Over at) refl plain)
+    (λ cut course. before_told transaction.outset steps_done b (Over (CutOff cut)) refl refl)
+    (λ judged. analysis_told transaction (HasJudged judged ∷ steps_done) b)
     step.Risk _ log replies
 
-verification_told : (trade : Trade) (marks : List Mark) → Before marks → (log : List Logged) (replies : List Reply) → Told trade.deal (verification trade marks log replies)
+verification_told : (transaction : TransactionData) (steps_done : List StepResult) → Before steps_done → (log : List Logged) (replies : List Reply) → Told transaction.outset (verification transaction steps_done log replies)
 unfolding verification
-verification_told trade marks b log replies =
-    card_all (cut_off marks) step.Verify marks (λ verified. risk trade (HasVerified verified ∷ marks)) (Told trade.deal)
-    (λ command. before_told trade.deal marks b (ToCard command) refl refl)
-    (λ at plain. before_told trade.deal marks b (Over at) refl plain)
-    (λ cut course. before_told trade.deal marks b (Over (CutOff cut)) refl refl)
-    (λ verified. risk_told trade (HasVerified verified ∷ marks) b)
+verification_told transaction steps_done b log replies =
+    card_all (cut_off steps_done) step.Verify steps_done (λ verified. risk transaction (HasVerified verified ∷ steps_done)) (Told transaction.outset)
+    (λ command. before_told transaction.outset steps_done b (ToCard command) refl refl)
+    (λ at plain. before_told transaction.outset steps_done b (Over at) refl plain)
+    (λ cut course. before_told transaction.outset steps_done b (Over (CutOff cut)) refl refl)
+    (λ verified. risk_told transaction (HasVerified verified ∷ steps_done) b)
     step.Verify _ log replies
 
-restrictions_told : (trade : Trade) (log : List Logged) (replies : List Reply) → Told trade.deal (restrictions trade log replies)
+restrictions_told : (transaction : TransactionData) (log : List Logged) (replies : List Reply) → Told transaction.outset (restrictions transaction log replies)
 unfolding restrictions
-restrictions_told trade log replies = verification_told trade _ (refl, refl, refl, refl, refl, refl) log replies
+restrictions_told transaction log replies = verification_told transaction _ (refl, refl, refl, refl, refl, refl) log replies
 
 -- what holds before the card is read, and from there on, holds of each dialogue
-module _ (deal : Deal) (Q : Standing Mark → Type 0)
+module _ (outset : Outset) (Q : Standing StepResult → Type 0)
     (at_first : (deed : Deed) → asks_host deed ≡ false → deed_approves deed ≡ false → Q (stands [] deed))
-    (reads : (row : AidRow) (card : ReadCard) (log : List Logged) (replies : List Reply) → Q (restrictions (record { deal = deal; row = row; card = card }) log replies)) where
-  opening_all : {A : Type 0} (at cut : Step) (course : List (List ℕ) → Progress A) (next : A → Rest Mark) → ((value : A) (log : List Logged) (replies : List Reply) → Q (next value log replies))
+    (reads : (row : AidRow) (card : ReadCard) (log : List Logged) (replies : List Reply) → Q (restrictions (record { outset = outset; row = row; card = card }) log replies)) where
+  opening_all : {A : Type 0} (at cut : Step) (course : List (List ℕ) → Progress A) (next : A → Rest StepResult) → ((value : A) (log : List Logged) (replies : List Reply) → Q (next value log replies))
       → (log : List Logged) (replies : List Reply) → Q (card_step (cut_off []) cut at [] course next log replies)
   opening_all at cut course next keeps log replies =
       card_all (cut_off []) at [] next Q
@@ -309,56 +309,56 @@ module _ (deal : Deal) (Q : Standing Mark → Type 0)
       (λ cut course. at_first (Over (CutOff cut)) refl refl)
       keeps cut course log replies
 
-  read_all : (row : AidRow) (at : Opened) (log : List Logged) (replies : List Reply) → Q (read deal row at log replies)
+  read_all : (row : AidRow) (at : Opened) (log : List Logged) (replies : List Reply) → Q (read outset row at log replies)
   unfolding read
-  read_all row at log replies = opening_all step.Read step.Read _ (λ card. restrictions (record { deal = deal; row = row; card = card })) (reads row) log replies
+  read_all row at log replies = opening_all step.Read step.Read _ (λ card. restrictions (record { outset = outset; row = row; card = card })) (reads row) log replies
 
-  granted_all : (row : AidRow) (others : Rest Mark) → ((log : List Logged) (replies : List Reply) → Q (others log replies)) → (at : Option Opened) (log : List Logged) (replies : List Reply)
-      → Q (granted deal row others at log replies)
+  granted_all : (row : AidRow) (others : Rest StepResult) → ((log : List Logged) (replies : List Reply) → Q (others log replies)) → (at : Option Opened) (log : List Logged) (replies : List Reply)
+      → Q (granted outset row others at log replies)
   granted_all row others holds None = holds
   granted_all row others holds (Some at) = read_all row at
 
-  initiation_all : (selected : SelectedData) (others : Rest Mark) → ((log : List Logged) (replies : List Reply) → Q (others log replies)) → (log : List Logged) (replies : List Reply)
-      → Q (initiation deal selected others log replies)
+  initiation_all : (selected : SelectedData) (others : Rest StepResult) → ((log : List Logged) (replies : List Reply) → Q (others log replies)) → (log : List Logged) (replies : List Reply)
+      → Q (initiation outset selected others log replies)
   unfolding initiation
-  initiation_all selected others holds log replies = opening_all step.Initiate step.Initiate _ (granted deal selected.row others) (granted_all selected.row others holds) log replies
+  initiation_all selected others holds log replies = opening_all step.Initiate step.Initiate _ (granted outset selected.row others) (granted_all selected.row others holds) log replies
 
-  opened_all : (others : Rest Mark) → ((log : List Logged) (replies : List Reply) → Q (others log replies)) → (selected : Option SelectedData) (log : List Logged) (replies : List Reply)
-      → Q (opened deal others selected log replies)
+  opened_all : (others : Rest StepResult) → ((log : List Logged) (replies : List Reply) → Q (others log replies)) → (selected : Option SelectedData) (log : List Logged) (replies : List Reply)
+      → Q (initiation_or outset others selected log replies)
   opened_all others holds None = holds
   opened_all others holds (Some selected) = initiation_all selected others holds
 
-  candidates_all : (candidates : List CandidateData) (log : List Logged) (replies : List Reply) → Q (candidates_left deal candidates log replies)
+  candidates_all : (candidates : List CandidateData) (log : List Logged) (replies : List Reply) → Q (candidates_left outset candidates log replies)
   unfolding candidates_left
   candidates_all [] log replies = at_first _ refl refl
   candidates_all (candidate ∷ left) log replies =
-      opening_all step.Select step.Select _ (opened deal (candidates_left deal left)) (opened_all (candidates_left deal left) (candidates_all left)) log replies
+      opening_all step.Select step.Select _ (initiation_or outset (candidates_left outset left)) (opened_all (candidates_left outset left) (candidates_all left)) log replies
 
-  pub dialogue_all : (replies : List Reply) → Q (dialogue deal replies)
+  pub dialogue_all : (replies : List Reply) → Q (dialogue outset replies)
   unfolding dialogue
   dialogue_all replies =
-      opening_all step.Select step.Power _ (λ selected. initiation deal selected (candidates_left deal selected.left))
-      (λ selected. initiation_all selected (candidates_left deal selected.left) (candidates_all selected.left)) [] replies
+      opening_all step.Select step.Power _ (λ selected. initiation outset selected (candidates_left outset selected.left))
+      (λ selected. initiation_all selected (candidates_left outset selected.left) (candidates_all selected.left)) [] replies
 
-dialogue_told : (deal : Deal) (replies : List Reply) → Told deal (dialogue deal replies)
-dialogue_told deal replies =
-    dialogue_all deal (Told deal) (opening_told deal) (λ row card log replies. restrictions_told (record { deal = deal; row = row; card = card }) log replies) replies
+dialogue_told : (outset : Outset) (replies : List Reply) → Told outset (dialogue outset replies)
+dialogue_told outset replies =
+    dialogue_all outset (Told outset) (opening_told outset) (λ row card log replies. restrictions_told (record { outset = outset; row = row; card = card }) log replies) replies
 
-pub host_told : (deal : Deal) (replies : List Reply) → HostTold deal (dialogue deal replies)
-host_told deal replies = let told = dialogue_told deal replies in record { unsent = told.0; asked = told.1 }
+pub host_told : (outset : Outset) (replies : List Reply) → HostTold outset (dialogue outset replies)
+host_told outset replies = let told = dialogue_told outset replies in record { unsent = told.0; asked = told.1 }
 
 some_mapped : {A B : Type 0} (f : A → B) (o : Option A) → is_some (option_map f o) ≡ is_some o
 some_mapped f None = refl
 some_mapped f (Some x) = refl
 
-presented : (deal : Deal) (card : ReadCard) (m : MomentData) → is_some m.last ≡ true → is_some (presentment deal card m) ≡ true
+presented : (outset : Outset) (card : ReadCard) (m : StateSoFarData) → is_some m.last ≡ true → is_some (presentment outset card m) ≡ true
 unfolding presentment
-presented deal card m there = some_mapped _ m.last ∙ there
+presented outset card m there = some_mapped _ m.last ∙ there
 
-reversed : (deal : Deal) (card : ReadCard) (m : MomentData) (may : Bool) → m.is_open ≡ may → (may ≡ true → is_some m.counter ≡ true) → is_some (reversal deal card m) ≡ may
+reversed : (outset : Outset) (card : ReadCard) (m : StateSoFarData) (may : Bool) → m.is_open ≡ may → (may ≡ true → is_some m.counter ≡ true) → is_some (reversal outset card m) ≡ may
 unfolding reversal
-reversed deal card m true is there = rw is (some_mapped _ m.counter ∙ there refl)
-reversed deal card m false is there = rw is refl
+reversed outset card m true is there = rw is (some_mapped _ m.counter ∙ there refl)
+reversed outset card m false is there = rw is refl
 
 sent_if : (sent refused : Bool) → (sent && not refused) ≡ true → sent ≡ true
 sent_if true refused is = refl
@@ -371,28 +371,28 @@ no_card : (b : Bool) → (b ≡ true → false ≡ true) → b ≡ false
 no_card true there = sym (there refl)
 no_card false there = refl
 
-capture_fits : (deal : Deal) (ending : Ending) (card : Option ReadCard) (m : MomentData) (sent refused : Bool)
+capture_fits : (outset : Outset) (ending : Ending) (card : Option ReadCard) (m : StateSoFarData) (sent refused : Bool)
     → m.is_open ≡ (sent && not refused)
     → (sent ≡ true → (is_some m.counter ≡ true) × (is_some card ≡ true))
-    → (approves ending ≡ true → (is_some m.last ≡ true) × (is_some card ≡ true))
-    → is_some (capture deal ending card m) ≡ (approves ending || (sent && not refused))
-capture_fits deal (Approved online) None m sent refused is_open when_sent when_good = absurd (cc ((when_good refl).1))
-capture_fits deal (Declined online) None m sent refused is_open when_sent when_good = sym (never_open sent refused (no_card sent (λ is. (when_sent is).1)))
-capture_fits deal (Terminated step cause) None m sent refused is_open when_sent when_good = sym (never_open sent refused (no_card sent (λ is. (when_sent is).1)))
-capture_fits deal (CutOff step) None m sent refused is_open when_sent when_good = sym (never_open sent refused (no_card sent (λ is. (when_sent is).1)))
-capture_fits deal (Approved online) (Some card) m sent refused is_open when_sent when_good = presented deal card m (when_good refl).0
-capture_fits deal (Declined online) (Some card) m sent refused is_open when_sent when_good = reversed deal card m (sent && not refused) is_open (λ is. (when_sent (sent_if sent refused is)).0)
-capture_fits deal (Terminated step cause) (Some card) m sent refused is_open when_sent when_good = reversed deal card m (sent && not refused) is_open (λ is. (when_sent (sent_if sent refused is)).0)
-capture_fits deal (CutOff step) (Some card) m sent refused is_open when_sent when_good = reversed deal card m (sent && not refused) is_open (λ is. (when_sent (sent_if sent refused is)).0)
+    → (is_approved_ending ending ≡ true → (is_some m.last ≡ true) × (is_some card ≡ true))
+    → is_some (capture outset ending card m) ≡ (is_approved_ending ending || (sent && not refused))
+capture_fits outset (Approved online) None m sent refused is_open when_sent when_good = absurd (cc ((when_good refl).1))
+capture_fits outset (Declined online) None m sent refused is_open when_sent when_good = sym (never_open sent refused (no_card sent (λ is. (when_sent is).1)))
+capture_fits outset (Terminated step cause) None m sent refused is_open when_sent when_good = sym (never_open sent refused (no_card sent (λ is. (when_sent is).1)))
+capture_fits outset (CutOff step) None m sent refused is_open when_sent when_good = sym (never_open sent refused (no_card sent (λ is. (when_sent is).1)))
+capture_fits outset (Approved online) (Some card) m sent refused is_open when_sent when_good = presented outset card m (when_good refl).0
+capture_fits outset (Declined online) (Some card) m sent refused is_open when_sent when_good = reversed outset card m (sent && not refused) is_open (λ is. (when_sent (sent_if sent refused is)).0)
+capture_fits outset (Terminated step cause) (Some card) m sent refused is_open when_sent when_good = reversed outset card m (sent && not refused) is_open (λ is. (when_sent (sent_if sent refused is)).0)
+capture_fits outset (CutOff step) (Some card) m sent refused is_open when_sent when_good = reversed outset card m (sent && not refused) is_open (λ is. (when_sent (sent_if sent refused is)).0)
 
-captured_by : (deal : Deal) (marks : List Mark) (deed : Deed) (end : EndData) → Told deal (stands marks deed) → end_of deal (stands marks deed) ≡ Some end
-    → is_some end.capture ≡ (approves end.ending || (list_any is_sent marks && not (list_any is_refused marks)))
-captured_by deal marks (ToCard command) end told ends = absurd (cc ends)
-captured_by deal marks (ToHost message) end told ends = absurd (cc ends)
-captured_by deal marks (Over ending) end told ends =
-    let same : end_with deal ending (latest card_of None marks) (moment marks) ≡ end = same_Some _ _ ends in
-    rw (← same) (capture_fits deal ending (latest card_of None marks) (moment marks) (list_any is_sent marks) (list_any is_refused marks) told.2 told.3 told.4)
+captured_by : (outset : Outset) (steps_done : List StepResult) (deed : Deed) (end : EndData) → Told outset (stands steps_done deed) → end_of outset (stands steps_done deed) ≡ Some end
+    → is_some end.capture ≡ (is_approved_ending end.ending || (list_any is_sent steps_done && not (list_any is_reply_refused steps_done)))
+captured_by outset steps_done (ToCard command) end told ends = absurd (cc ends)
+captured_by outset steps_done (ToHost message) end told ends = absurd (cc ends)
+captured_by outset steps_done (Over ending) end told ends =
+    let same : end_with outset ending (latest sets_card None steps_done) (state_so_far steps_done) ≡ end = same_Some _ _ ends in
+    rw (← same) (capture_fits outset ending (latest sets_card None steps_done) (state_so_far steps_done) (list_any is_sent steps_done) (list_any is_reply_refused steps_done) told.2 told.3 told.4)
 
-pub captures_fit : (deal : Deal) (replies : List Reply) (end : EndData) → end_of deal (dialogue deal replies) ≡ Some end
-    → is_some end.capture ≡ (approves end.ending || (list_any is_sent (dialogue deal replies).marks && not (list_any is_refused (dialogue deal replies).marks)))
-captures_fit deal replies end ends = captured_by deal (dialogue deal replies).marks (dialogue deal replies).deed end (dialogue_told deal replies) ends
+pub captures_fit : (outset : Outset) (replies : List Reply) (end : EndData) → end_of outset (dialogue outset replies) ≡ Some end
+    → is_some end.capture ≡ (is_approved_ending end.ending || (list_any is_sent (dialogue outset replies).steps_done && not (list_any is_reply_refused (dialogue outset replies).steps_done)))
+captures_fit outset replies end ends = captured_by outset (dialogue outset replies).steps_done (dialogue outset replies).deed end (dialogue_told outset replies) ends

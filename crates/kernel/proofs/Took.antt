@@ -3,21 +3,21 @@ use Rattle.std.proofs.Common.{◌≡◌, ap, sym, ◌∙◌, ◌+◌, ◌-◌, �
 use Rattle.std.proofs.lemmas.List.{append_assoc, length-append}
 use Rattle.std.specs.declared.option.Option.{Option}
 use Rattle.emv_dict.specs.declared.purchase.Logged.{Logged}
-use Rattle.kernel.specs.Course.{Standing}
+use Rattle.kernel.specs.StepsInTurn.{Standing}
 use Rattle.kernel.specs.Dialogue.{dialogue}
-use Rattle.kernel.specs.Kernel.{KernelData, KernelFits, KernelStands, StageGoes, deal_in, next_of}
+use Rattle.kernel.specs.Kernel.{KernelData, KernelFits, KernelStands, StageGoes, outset_in, kernel_next}
 use Rattle.kernel.specs.Reply.{Reply}
 use Rattle.kernel.specs.declared.kernel.Next.{Next}
 use Rattle.kernel.specs.declared.kernel.Next.TheVariants as next
 use Rattle.kernel.specs.declared.stage.Stage.{Stage}
 use Rattle.kernel.specs.declared.stage.Stage.TheVariants as stage
 use Rattle.object_lists.specs.CardRead.{ReadCard}
-use Rattle.terminal_state.specs.Marks.{Mark}
-use Rattle.terminal_state.specs.Terminal.{Deal}
+use Rattle.terminal_state.specs.StepResults.{StepResult}
+use Rattle.terminal_state.specs.Terminal.{Outset}
 use Rattle.terminal_state.specs.declared.table.Table.{Table}
 
 -- what is left of a dialogue is known by what it makes of all replies
-goes_alike : (t : Table) → (held : Option ReadCard) → (s : Stage) → (log : List Logged) → (rest other : List Reply → Standing Mark) → ((later : List Reply) → other later ≡ rest later) → StageGoes t held s log rest → StageGoes t held s log other
+goes_alike : (t : Table) → (held : Option ReadCard) → (s : Stage) → (log : List Logged) → (rest other : List Reply → Standing StepResult) → ((later : List Reply) → other later ≡ rest later) → StageGoes t held s log rest → StageGoes t held s log other
 goes_alike t held (stage.Opening s) log rest other alike goes = record {
   passed = λ later. alike later ∙ goes.passed later;
   tied = goes.tied;
@@ -27,7 +27,7 @@ goes_alike t held (stage.Trading at) log rest other alike goes = record {
   card = goes.card;
   card_is = goes.card_is;
   stands = record {
-    marks = goes.stands.marks;
+    steps_done = goes.stands.steps_done;
     passed = λ later. alike later ∙ goes.stands.passed later;
     tied = goes.stands.tied;
     read = goes.stands.read;
@@ -41,15 +41,15 @@ count_more most n taken now is more = omega arith
 
 -- the reply joins those that were taken
 pub kernel_took : (k k2 : KernelData) → (reply : Reply) → (log : List Logged → List Logged) → (replies : List Reply)
-    → deal_in k2 ≡ deal_in k → k2.taken ≡ min (k.taken + 1) (2 ^ 64 - 1)
-    → ((before : List Logged) → (rest : List Reply → Standing Mark) → StageGoes k.table k.card k.stage before rest → StageGoes k2.table k2.card k2.stage (log before) (λ later. rest (reply ∷ later)))
+    → outset_in k2 ≡ outset_in k → k2.taken ≡ min (k.taken + 1) (2 ^ 64 - 1)
+    → ((before : List Logged) → (rest : List Reply → Standing StepResult) → StageGoes k.table k.card k.stage before rest → StageGoes k2.table k2.card k2.stage (log before) (λ later. rest (reply ∷ later)))
     → KernelStands k replies → KernelStands k2 (replies ++ reply ∷ [])
 kernel_took k k2 reply log replies same taken goes is = record {
   count = rw (length-append replies (reply ∷ [])) (count_more (2 ^ 64 - 1) (length replies) k.taken k2.taken is.count taken);
   log = log is.log;
-  goes = goes_alike k2.table k2.card k2.stage (log is.log) (λ later. dialogue (deal_in k) (replies ++ reply ∷ later)) (λ later. dialogue (deal_in k2) ((replies ++ reply ∷ []) ++ later))
-      (λ later. ap (λ (deal : Deal). dialogue deal ((replies ++ reply ∷ []) ++ later)) same ∙ ap (λ (all : List Reply). dialogue (deal_in k) all) (append_assoc replies (reply ∷ []) later))
-      (goes is.log (λ later. dialogue (deal_in k) (replies ++ later)) is.goes);
+  goes = goes_alike k2.table k2.card k2.stage (log is.log) (λ later. dialogue (outset_in k) (replies ++ reply ∷ later)) (λ later. dialogue (outset_in k2) ((replies ++ reply ∷ []) ++ later))
+      (λ later. ap (λ (outset : Outset). dialogue outset ((replies ++ reply ∷ []) ++ later)) same ∙ ap (λ (all : List Reply). dialogue (outset_in k) all) (append_assoc replies (reply ∷ []) later))
+      (goes is.log (λ later. dialogue (outset_in k) (replies ++ later)) is.goes);
 }
 
 -- one that waits for a reply has its end before it
@@ -57,5 +57,5 @@ not_spent_by : (spent : Bool) (waits : Next) → (spent ≡ true → waits ≡ n
 not_spent_by true waits over still = absurd (still (over refl))
 not_spent_by false waits over still = refl
 
-pub not_spent : (k : KernelData) (waits : Next) → KernelFits k → next_of k ≡ waits → (waits ≡ next.Ended → ⊥) → k.is_spent ≡ false
-not_spent k waits fits is still = not_spent_by k.is_spent (next_of k) fits.over (λ over. still (sym is ∙ over))
+pub not_spent : (k : KernelData) (waits : Next) → KernelFits k → kernel_next k ≡ waits → (waits ≡ next.Ended → ⊥) → k.is_spent ≡ false
+not_spent k waits fits is still = not_spent_by k.is_spent (kernel_next k) fits.over (λ over. still (sym is ∙ over))

@@ -16,58 +16,57 @@ use Rattle.emv_dict.specs.declared.judged.Judged.{Judged}
 use Rattle.emv_dict.specs.declared.purchase.AidRow.{AidRow}
 use Rattle.emv_dict.specs.declared.purchase.Logged.{Logged}
 use Rattle.kernel.proofs.Showing.{next_is_told}
-use Rattle.kernel.specs.Course.{Standing, Rest, stands, over, by_progress, settled, card_step, cut_off, host_step}
-use Rattle.kernel.specs.Dialogue.{Trade, all_failed, left_script, scripts_behind, second, scripts_before, authentication, authentication_by, has_authentication, unable_online, kind_unable, reply_read, replied, is_offline_only, first_answered, first, analysis, risk, verification, restrictions, read, granted, initiation, opened, candidates_left, selected_then, dialogue, decision, kind_for, kind_wanted}
-use Rattle.kernel.specs.Kernel.{KernelData, KernelFits, KernelStands, deal_in, next_of, told_next}
+use Rattle.kernel.specs.StepsInTurn.{Standing, Rest, stands, over, by_progress, then_step, card_step, cut_off, host_step}
+use Rattle.kernel.specs.Dialogue.{TransactionData, all_failed, left_script, scripts_behind, second, scripts_before, issuer_authentication, authentication_by, has_authentication, unable_online, kind_unable, reply_read, replied, is_offline_only, first_answered, first, analysis, risk, verification, restrictions, read, granted, initiation, initiation_or, candidates_left, selected_then, dialogue, decision, kind_for, kind_wanted}
+use Rattle.kernel.specs.Kernel.{KernelData, KernelFits, KernelStands, outset_in, kernel_next, standing_next}
 use Rattle.kernel.specs.Laws.{AsBefore, LeavesBy, IsUnable, HeardBy, Turned, cuts, is_second}
 use Rattle.kernel.specs.Reply.{Reply, CardSaid, CardGone, HostSaid, HostSilent, ToCard, Over}
-use Rattle.kernel.specs.declared.kernel.Next.{Next}
 use Rattle.kernel.specs.declared.kernel.Next.TheVariants as next
 use Rattle.kernel.specs.declared.stage.OnlineOutcome.{OnlineOutcome}
 use Rattle.kernel.specs.declared.stage.OnlineOutcome.TheVariants.{Replied, Unable}
-use Rattle.online_step.specs.Authenticate.{authenticated}
+use Rattle.online_step.specs.Authenticate.{authentication_step}
 use Rattle.pse_directory.specs.Directory.{selecting_by}
 use Rattle.read_records.specs.Options.{Opened}
 use Rattle.script_run.specs.Ran.{template_ran}
-use Rattle.terminal_state.specs.Marks.{Mark, HasVerified, HasJudged, HasAnalysed, HasFirst, HasReply, WasUnable, HasAuthenticated, HasRunBefore, HasSecond, HasRunBehind}
-use Rattle.terminal_state.specs.Scripts.{templates, kept}
-use Rattle.terminal_state.specs.Terminal.{Deal}
-use Rattle.terminal_state.specs.declared.moment.OnlineRequest.{OnlineRequest}
-use Rattle.terminal_state.specs.declared.moment.OnlineRequest.TheVariants.{Sent, NotSent}
+use Rattle.terminal_state.specs.StepResults.{StepResult, HasVerified, HasJudged, HasAnalysed, HasFirst, HasReply, WasUnable, HasAuthenticated, HasRunBefore, HasSecond, HasRunBehind}
+use Rattle.terminal_state.specs.Scripts.{templates_of_tag, kept_host_reply}
+use Rattle.terminal_state.specs.Terminal.{Outset}
+use Rattle.terminal_state.specs.declared.state_so_far.OnlineRequest.{OnlineRequest}
+use Rattle.terminal_state.specs.declared.state_so_far.OnlineRequest.TheVariants.{Sent, NotSent}
 
-abbrev Turn : Standing Mark → Reply → Standing Mark → Type 0
+abbrev Turn : Standing StepResult → Reply → Standing StepResult → Type 0
 Turn s reply t = (t ≡ s) ⊎ Turned s reply t
 
--- where a rest begins behind these marks, and what each reply makes of it
-abbrev Turns : List Mark → Rest Mark → Type 0
-Turns marks rest =
-    ((log : List Logged) → AsBefore marks (rest log []))
+-- where a rest begins behind these steps, and what each reply makes of it
+abbrev Turns : List StepResult → Rest StepResult → Type 0
+Turns steps_done rest =
+    ((log : List Logged) → AsBefore steps_done (rest log []))
     × ((log : List Logged) (replies : List Reply) (reply : Reply) → Turn (rest log replies) reply (rest log (replies ++ reply ∷ [])))
 
-over_turns : (marks : List Mark) (ending : Ending) → cuts ending ≡ false → Turns marks (over marks ending)
-over_turns marks ending whole = (λ log. (whole, refl, refl), λ log replies reply. inl refl)
+over_turns : (steps_done : List StepResult) (ending : Ending) → cuts ending ≡ false → Turns steps_done (over steps_done ending)
+over_turns steps_done ending whole = (λ log. (whole, refl, refl), λ log replies reply. inl refl)
 
-module _ {A : Type 0} (left : Step → (List (List ℕ) → Progress A) → Standing Mark) (step : Step) (marks : List Mark) (next : A → Rest Mark)
-    (leaves : (cut : Step) (course : List (List ℕ) → Progress A) → LeavesBy (list_any is_second marks) marks (left cut course))
-    (keeps : (value : A) → Turns marks (next value)) where
-  start_by : (log : List Logged) (progress : Progress A) → AsBefore marks (settled step marks next log [] (λ command. stands marks (ToCard command)) progress)
+module _ {A : Type 0} (left : Step → (List (List ℕ) → Progress A) → Standing StepResult) (step : Step) (steps_done : List StepResult) (next : A → Rest StepResult)
+    (leaves : (cut : Step) (course : List (List ℕ) → Progress A) → LeavesBy (list_any is_second steps_done) steps_done (left cut course))
+    (keeps : (value : A) → Turns steps_done (next value)) where
+  start_by : (log : List Logged) (progress : Progress A) → AsBefore steps_done (then_step step steps_done next log [] (λ command. stands steps_done (ToCard command)) progress)
   start_by log (Wants command) = (refl, refl, refl)
   start_by log (Stopped cause) = (refl, refl, refl)
   start_by log (Done value rest) = (keeps value).0 log
 
-  walk_starts : (cut : Step) (course : List (List ℕ) → Progress A) (log : List Logged) → AsBefore marks (card_step left cut step marks course next log [])
+  walk_starts : (cut : Step) (course : List (List ℕ) → Progress A) (log : List Logged) → AsBefore steps_done (card_step left cut step steps_done course next log [])
   unfolding card_step
   walk_starts cut course log = start_by log (course [])
 
-  turn_by : (log : List Logged) (replies : List Reply) (reply : Reply) (wanted other : List ℕ → Standing Mark) (progress : Progress A)
+  turn_by : (log : List Logged) (replies : List Reply) (reply : Reply) (wanted other : List ℕ → Standing StepResult) (progress : Progress A)
       → ((command : List ℕ) → Turn (wanted command) reply (other command))
-      → Turn (settled step marks next log replies wanted progress) reply (settled step marks next log (replies ++ reply ∷ []) other progress)
+      → Turn (then_step step steps_done next log replies wanted progress) reply (then_step step steps_done next log (replies ++ reply ∷ []) other progress)
   turn_by log replies reply wanted other (Wants command) wants = wants command
   turn_by log replies reply wanted other (Stopped cause) wants = inl refl
   turn_by log replies reply wanted other (Done value rest) wants = (keeps value).1 log replies reply
 
   walk_turns : (cut : Step) (course : List (List ℕ) → Progress A) (log : List Logged) (replies : List Reply) (reply : Reply)
-      → Turn (card_step left cut step marks course next log replies) reply (card_step left cut step marks course next log (replies ++ reply ∷ []))
+      → Turn (card_step left cut step steps_done course next log replies) reply (card_step left cut step steps_done course next log (replies ++ reply ∷ []))
   unfolding card_step
   walk_turns cut course log [] (CardSaid answer now) =
       turn_by log [] (CardSaid answer now) _ _ (course []) (λ command. inr (walk_starts step (λ later. course (answer ∷ later)) now))
@@ -80,196 +79,196 @@ module _ {A : Type 0} (left : Step → (List (List ℕ) → Progress A) → Stan
   walk_turns cut course log (HostSaid said ∷ replies) reply = turn_by log (HostSaid said ∷ replies) reply _ _ (course []) (λ command. inl refl)
   walk_turns cut course log (HostSilent ∷ replies) reply = turn_by log (HostSilent ∷ replies) reply _ _ (course []) (λ command. inl refl)
 
-  card_turns : (cut : Step) (course : List (List ℕ) → Progress A) → Turns marks (card_step left cut step marks course next)
+  card_turns : (cut : Step) (course : List (List ℕ) → Progress A) → Turns steps_done (card_step left cut step steps_done course next)
   card_turns cut course = (walk_starts cut course, walk_turns cut course)
 
-host_walk : (marks : List Mark) (message : List ℕ) (next : Option (List ℕ) → Rest Mark)
-    → ((log : List Logged) → IsUnable marks (next None log []))
-    → ((said : List ℕ) (log : List Logged) → HeardBy (reply_of said) marks (next (Some said) log []))
+host_walk : (steps_done : List StepResult) (message : List ℕ) (next : Option (List ℕ) → Rest StepResult)
+    → ((log : List Logged) → IsUnable steps_done (next None log []))
+    → ((said : List ℕ) (log : List Logged) → HeardBy (reply_of said) steps_done (next (Some said) log []))
     → ((heard : Option (List ℕ)) (log : List Logged) (replies : List Reply) (reply : Reply) → Turn (next heard log replies) reply (next heard log (replies ++ reply ∷ [])))
-    → (log : List Logged) (replies : List Reply) (reply : Reply) → Turn (host_step marks message next log replies) reply (host_step marks message next log (replies ++ reply ∷ []))
+    → (log : List Logged) (replies : List Reply) (reply : Reply) → Turn (host_step steps_done message next log replies) reply (host_step steps_done message next log (replies ++ reply ∷ []))
 unfolding host_step
-host_walk marks message next silent says turns log [] (CardSaid answer now) = inl refl
-host_walk marks message next silent says turns log [] CardGone = inl refl
-host_walk marks message next silent says turns log [] (HostSaid said) = inr (says said log)
-host_walk marks message next silent says turns log [] HostSilent = inr (silent log)
-host_walk marks message next silent says turns log (CardSaid answer now ∷ replies) reply = inl refl
-host_walk marks message next silent says turns log (CardGone ∷ replies) reply = inl refl
-host_walk marks message next silent says turns log (HostSaid said ∷ replies) reply = turns (Some said) log replies reply
-host_walk marks message next silent says turns log (HostSilent ∷ replies) reply = turns None log replies reply
+host_walk steps_done message next silent says turns log [] (CardSaid answer now) = inl refl
+host_walk steps_done message next silent says turns log [] CardGone = inl refl
+host_walk steps_done message next silent says turns log [] (HostSaid said) = inr (says said log)
+host_walk steps_done message next silent says turns log [] HostSilent = inr (silent log)
+host_walk steps_done message next silent says turns log (CardSaid answer now ∷ replies) reply = inl refl
+host_walk steps_done message next silent says turns log (CardGone ∷ replies) reply = inl refl
+host_walk steps_done message next silent says turns log (HostSaid said ∷ replies) reply = turns (Some said) log replies reply
+host_walk steps_done message next silent says turns log (HostSilent ∷ replies) reply = turns None log replies reply
 
-host_starts : (marks : List Mark) (message : List ℕ) (next : Option (List ℕ) → Rest Mark) (log : List Logged) → AsBefore marks (host_step marks message next log [])
+host_starts : (steps_done : List StepResult) (message : List ℕ) (next : Option (List ℕ) → Rest StepResult) (log : List Logged) → AsBefore steps_done (host_step steps_done message next log [])
 unfolding host_step
-host_starts marks message next log = (refl, refl, refl)
+host_starts steps_done message next log = (refl, refl, refl)
 
-cut_leaves : {A : Type 0} (marks : List Mark) → list_any is_second marks ≡ false → (cut : Step) (course : List (List ℕ) → Progress A) → LeavesBy (list_any is_second marks) marks (cut_off marks cut course)
-cut_leaves marks none cut course = rw none (cut, refl)
+cut_leaves : {A : Type 0} (steps_done : List StepResult) → list_any is_second steps_done ≡ false → (cut : Step) (course : List (List ℕ) → Progress A) → LeavesBy (list_any is_second steps_done) steps_done (cut_off steps_done cut course)
+cut_leaves steps_done none cut course = rw none (cut, refl)
 
 decides : (outcome : OnlineOutcome) (kind : Kind) → cuts (decision outcome kind) ≡ false
 decides outcome Tc = refl
 decides outcome Aac = refl
 decides outcome Arqc = refl
 
-left_turns : (ending : Ending) → cuts ending ≡ false → (others : List (List ℕ)) (marks : List Mark) → list_any is_second marks ≡ true → (progress : Progress (List ℕ))
-    → LeavesBy (list_any is_second marks) marks
-    (by_progress (λ command. stands marks (Over ending)) (λ cause. stands marks (Over ending)) (λ result. stands (all_failed others (HasRunBehind result ∷ marks)) (Over ending)) progress)
-left_turns ending whole others marks there (Wants command) = rw there (ending, refl, whole)
-left_turns ending whole others marks there (Stopped cause) = rw there (ending, refl, whole)
-left_turns ending whole others marks there (Done result rest) = rw there (ending, refl, whole)
+left_turns : (ending : Ending) → cuts ending ≡ false → (others : List (List ℕ)) (steps_done : List StepResult) → list_any is_second steps_done ≡ true → (progress : Progress (List ℕ))
+    → LeavesBy (list_any is_second steps_done) steps_done
+    (by_progress (λ command. stands steps_done (Over ending)) (λ cause. stands steps_done (Over ending)) (λ result. stands (all_failed others (HasRunBehind result ∷ steps_done)) (Over ending)) progress)
+left_turns ending whole others steps_done there (Wants command) = rw there (ending, refl, whole)
+left_turns ending whole others steps_done there (Stopped cause) = rw there (ending, refl, whole)
+left_turns ending whole others steps_done there (Done result rest) = rw there (ending, refl, whole)
 
-scripts_behind_turns : (ending : Ending) → cuts ending ≡ false → (scripts : List (List ℕ)) (marks : List Mark) → list_any is_second marks ≡ true → Turns marks (scripts_behind ending scripts marks)
+scripts_behind_turns : (ending : Ending) → cuts ending ≡ false → (scripts : List (List ℕ)) (steps_done : List StepResult) → list_any is_second steps_done ≡ true → Turns steps_done (scripts_behind ending scripts steps_done)
 unfolding scripts_behind
-scripts_behind_turns ending whole [] marks there = over_turns marks ending whole
-scripts_behind_turns ending whole (template ∷ others) marks there =
-    card_turns (left_script ending others marks) step.Script marks (λ result. scripts_behind ending others (HasRunBehind result ∷ marks))
-    (λ cut course. left_turns ending whole others marks there (course ([] ∷ [])))
-    (λ result. scripts_behind_turns ending whole others (HasRunBehind result ∷ marks) there)
+scripts_behind_turns ending whole [] steps_done there = over_turns steps_done ending whole
+scripts_behind_turns ending whole (template ∷ others) steps_done there =
+    card_turns (left_script ending others steps_done) step.Script steps_done (λ result. scripts_behind ending others (HasRunBehind result ∷ steps_done))
+    (λ cut course. left_turns ending whole others steps_done there (course ([] ∷ [])))
+    (λ result. scripts_behind_turns ending whole others (HasRunBehind result ∷ steps_done) there)
     step.Script (template_ran template)
 
-second_turns : (trade : Trade) (outcome : OnlineOutcome) (asked : Kind) (behind : List (List ℕ)) (marks : List Mark) → list_any is_second marks ≡ false → Turns marks (second trade outcome asked behind marks)
+second_turns : (transaction : TransactionData) (outcome : OnlineOutcome) (asked : Kind) (behind : List (List ℕ)) (steps_done : List StepResult) → list_any is_second steps_done ≡ false → Turns steps_done (second transaction outcome asked behind steps_done)
 unfolding second
-second_turns trade outcome asked behind marks none =
-    card_turns (cut_off marks) step.Second marks (λ ac. scripts_behind (decision outcome ac.kind) behind (HasSecond ac ∷ marks)) (cut_leaves marks none)
-    (λ ac. scripts_behind_turns (decision outcome ac.kind) (decides outcome ac.kind) behind (HasSecond ac ∷ marks) refl)
+second_turns transaction outcome asked behind steps_done none =
+    card_turns (cut_off steps_done) step.Second steps_done (λ ac. scripts_behind (decision outcome ac.kind) behind (HasSecond ac ∷ steps_done)) (cut_leaves steps_done none)
+    (λ ac. scripts_behind_turns (decision outcome ac.kind) (decides outcome ac.kind) behind (HasSecond ac ∷ steps_done) refl)
     step.Second _
 
-scripts_before_turns : (trade : Trade) (reply : ReplyData) (scripts : List (List ℕ)) (marks : List Mark) → list_any is_second marks ≡ false → Turns marks (scripts_before trade reply scripts marks)
+scripts_before_turns : (transaction : TransactionData) (reply : ReplyData) (scripts : List (List ℕ)) (steps_done : List StepResult) → list_any is_second steps_done ≡ false → Turns steps_done (scripts_before transaction reply scripts steps_done)
 unfolding scripts_before
-scripts_before_turns trade reply [] marks none = second_turns trade Replied (kind_for reply.code) (templates 0x72 reply.scripts) marks none
-scripts_before_turns trade reply (template ∷ others) marks none =
-    card_turns (cut_off marks) step.Script marks (λ result. scripts_before trade reply others (HasRunBefore result ∷ marks)) (cut_leaves marks none)
-    (λ result. scripts_before_turns trade reply others (HasRunBefore result ∷ marks) none)
+scripts_before_turns transaction reply [] steps_done none = second_turns transaction Replied (kind_for reply.code) (templates_of_tag 0x72 reply.scripts) steps_done none
+scripts_before_turns transaction reply (template ∷ others) steps_done none =
+    card_turns (cut_off steps_done) step.Script steps_done (λ result. scripts_before transaction reply others (HasRunBefore result ∷ steps_done)) (cut_leaves steps_done none)
+    (λ result. scripts_before_turns transaction reply others (HasRunBefore result ∷ steps_done) none)
     step.Script (template_ran template)
 
-authentication_by_turns : (trade : Trade) (reply : ReplyData) (marks : List Mark) → list_any is_second marks ≡ false → (has : Bool) (auth : Option (List ℕ)) → Turns marks (authentication_by trade reply marks has auth)
-authentication_by_turns trade reply marks none has None = scripts_before_turns trade reply (templates 0x71 reply.scripts) marks none
-authentication_by_turns trade reply marks none false (Some value) = scripts_before_turns trade reply (templates 0x71 reply.scripts) marks none
-authentication_by_turns trade reply marks none true (Some value) =
-    card_turns (cut_off marks) step.Authenticate marks (λ good. scripts_before trade reply (templates 0x71 reply.scripts) (HasAuthenticated good ∷ marks)) (cut_leaves marks none)
-    (λ good. scripts_before_turns trade reply (templates 0x71 reply.scripts) (HasAuthenticated good ∷ marks) none)
-    step.Authenticate (authenticated value)
+authentication_by_turns : (transaction : TransactionData) (reply : ReplyData) (steps_done : List StepResult) → list_any is_second steps_done ≡ false → (has : Bool) (auth : Option (List ℕ)) → Turns steps_done (authentication_by transaction reply steps_done has auth)
+authentication_by_turns transaction reply steps_done none has None = scripts_before_turns transaction reply (templates_of_tag 0x71 reply.scripts) steps_done none
+authentication_by_turns transaction reply steps_done none false (Some value) = scripts_before_turns transaction reply (templates_of_tag 0x71 reply.scripts) steps_done none
+authentication_by_turns transaction reply steps_done none true (Some value) =
+    card_turns (cut_off steps_done) step.Authenticate steps_done (λ good. scripts_before transaction reply (templates_of_tag 0x71 reply.scripts) (HasAuthenticated good ∷ steps_done)) (cut_leaves steps_done none)
+    (λ good. scripts_before_turns transaction reply (templates_of_tag 0x71 reply.scripts) (HasAuthenticated good ∷ steps_done) none)
+    step.Authenticate (authentication_step value)
 
-authentication_turns : (trade : Trade) (reply : ReplyData) (marks : List Mark) → list_any is_second marks ≡ false → Turns marks (authentication trade reply marks)
-unfolding authentication
-authentication_turns trade reply marks none = authentication_by_turns trade reply marks none (has_authentication trade.card) reply.auth
+authentication_turns : (transaction : TransactionData) (reply : ReplyData) (steps_done : List StepResult) → list_any is_second steps_done ≡ false → Turns steps_done (issuer_authentication transaction reply steps_done)
+unfolding issuer_authentication
+authentication_turns transaction reply steps_done none = authentication_by_turns transaction reply steps_done none (has_authentication transaction.card) reply.auth
 
-unable_turns : (trade : Trade) (request : OnlineRequest) (marks : List Mark) → list_any is_second marks ≡ false → Turns (WasUnable request (kind_unable trade marks) ∷ marks) (unable_online trade request marks)
+unable_turns : (transaction : TransactionData) (request : OnlineRequest) (steps_done : List StepResult) → list_any is_second steps_done ≡ false → Turns (WasUnable request (kind_unable transaction steps_done) ∷ steps_done) (unable_online transaction request steps_done)
 unfolding unable_online
-unable_turns trade request marks none = second_turns trade Unable (kind_unable trade marks) [] (WasUnable request (kind_unable trade marks) ∷ marks) none
+unable_turns transaction request steps_done none = second_turns transaction Unable (kind_unable transaction steps_done) [] (WasUnable request (kind_unable transaction steps_done) ∷ steps_done) none
 
-heard_by : (trade : Trade) (marks : List Mark) → list_any is_second marks ≡ false → (said : Result ReplyData MessageFault) (log : List Logged) → HeardBy said marks (reply_read trade marks said log [])
-heard_by trade marks none (Ok reply) log = (authentication_turns trade (kept reply) (HasReply reply ∷ marks) none).0 log
-heard_by trade marks none (Err fault) log = (unable_turns trade Sent marks none).0 log
+heard_by : (transaction : TransactionData) (steps_done : List StepResult) → list_any is_second steps_done ≡ false → (said : Result ReplyData MessageFault) (log : List Logged) → HeardBy said steps_done (reply_read transaction steps_done said log [])
+heard_by transaction steps_done none (Ok reply) log = (authentication_turns transaction (kept_host_reply reply) (HasReply reply ∷ steps_done) none).0 log
+heard_by transaction steps_done none (Err fault) log = (unable_turns transaction Sent steps_done none).0 log
 
-read_turns : (trade : Trade) (marks : List Mark) → list_any is_second marks ≡ false → (said : Result ReplyData MessageFault) (log : List Logged) (replies : List Reply) (reply : Reply)
-    → Turn (reply_read trade marks said log replies) reply (reply_read trade marks said log (replies ++ reply ∷ []))
-read_turns trade marks none (Ok said) log replies reply = (authentication_turns trade (kept said) (HasReply said ∷ marks) none).1 log replies reply
-read_turns trade marks none (Err fault) log replies reply = (unable_turns trade Sent marks none).1 log replies reply
+read_turns : (transaction : TransactionData) (steps_done : List StepResult) → list_any is_second steps_done ≡ false → (said : Result ReplyData MessageFault) (log : List Logged) (replies : List Reply) (reply : Reply)
+    → Turn (reply_read transaction steps_done said log replies) reply (reply_read transaction steps_done said log (replies ++ reply ∷ []))
+read_turns transaction steps_done none (Ok said) log replies reply = (authentication_turns transaction (kept_host_reply said) (HasReply said ∷ steps_done) none).1 log replies reply
+read_turns transaction steps_done none (Err fault) log replies reply = (unable_turns transaction Sent steps_done none).1 log replies reply
 
-replied_turns : (trade : Trade) (marks : List Mark) → list_any is_second marks ≡ false → (heard : Option (List ℕ)) (log : List Logged) (replies : List Reply) (reply : Reply)
-    → Turn (replied trade marks heard log replies) reply (replied trade marks heard log (replies ++ reply ∷ []))
-replied_turns trade marks none None log replies reply = (unable_turns trade Sent marks none).1 log replies reply
-replied_turns trade marks none (Some said) log replies reply = read_turns trade marks none (reply_of said) log replies reply
+replied_turns : (transaction : TransactionData) (steps_done : List StepResult) → list_any is_second steps_done ≡ false → (heard : Option (List ℕ)) (log : List Logged) (replies : List Reply) (reply : Reply)
+    → Turn (replied transaction steps_done heard log replies) reply (replied transaction steps_done heard log (replies ++ reply ∷ []))
+replied_turns transaction steps_done none None log replies reply = (unable_turns transaction Sent steps_done none).1 log replies reply
+replied_turns transaction steps_done none (Some said) log replies reply = read_turns transaction steps_done none (reply_of said) log replies reply
 
-online_by_turns : (trade : Trade) (marks : List Mark) (message : List ℕ) → list_any is_second marks ≡ false → (test : Bool)
-    → Turns marks (let rest : Rest Mark = (if test then unable_online trade NotSent marks else host_step marks message (replied trade marks)) in rest)
-online_by_turns trade marks message none true = unable_turns trade NotSent marks none
-online_by_turns trade marks message none false = (
-  λ log. host_starts marks message (replied trade marks) log,
-  λ log replies reply. host_walk marks message (replied trade marks) (λ log. (unable_turns trade Sent marks none).0 log)
-      (λ said log. heard_by trade marks none (reply_of said) log) (replied_turns trade marks none) log replies reply,
+online_by_turns : (transaction : TransactionData) (steps_done : List StepResult) (message : List ℕ) → list_any is_second steps_done ≡ false → (test : Bool)
+    → Turns steps_done (let rest : Rest StepResult = (if test then unable_online transaction NotSent steps_done else host_step steps_done message (replied transaction steps_done)) in rest)
+online_by_turns transaction steps_done message none true = unable_turns transaction NotSent steps_done none
+online_by_turns transaction steps_done message none false = (
+  λ log. host_starts steps_done message (replied transaction steps_done) log,
+  λ log replies reply. host_walk steps_done message (replied transaction steps_done) (λ log. (unable_turns transaction Sent steps_done none).0 log)
+      (λ said log. heard_by transaction steps_done none (reply_of said) log) (replied_turns transaction steps_done none) log replies reply,
 )
 
-first_answered_turns : (trade : Trade) (ac : AcData) (marks : List Mark) → list_any is_second marks ≡ false → (kind : Kind) → Turns marks (first_answered trade ac marks kind)
-first_answered_turns trade ac marks none Tc = over_turns marks _ refl
-first_answered_turns trade ac marks none Aac = over_turns marks _ refl
-first_answered_turns trade ac marks none Arqc = online_by_turns trade marks _ none (is_offline_only trade.deal.settings.kind)
+first_answered_turns : (transaction : TransactionData) (ac : AcData) (steps_done : List StepResult) → list_any is_second steps_done ≡ false → (kind : Kind) → Turns steps_done (first_answered transaction ac steps_done kind)
+first_answered_turns transaction ac steps_done none Tc = over_turns steps_done _ refl
+first_answered_turns transaction ac steps_done none Aac = over_turns steps_done _ refl
+first_answered_turns transaction ac steps_done none Arqc = online_by_turns transaction steps_done _ none (is_offline_only transaction.outset.settings.kind)
 
-first_turns : (trade : Trade) (asked : Kind) (marks : List Mark) → list_any is_second marks ≡ false → Turns marks (first trade asked marks)
+first_turns : (transaction : TransactionData) (asked : Kind) (steps_done : List StepResult) → list_any is_second steps_done ≡ false → Turns steps_done (first transaction asked steps_done)
 unfolding first
-first_turns trade asked marks none =
-    card_turns (cut_off marks) step.First marks (λ ac. first_answered trade ac (HasFirst ac ∷ marks) ac.kind) (cut_leaves marks none)
-    (λ ac. first_answered_turns trade ac (HasFirst ac ∷ marks) none ac.kind)
+first_turns transaction asked steps_done none =
+    card_turns (cut_off steps_done) step.First steps_done (λ ac. first_answered transaction ac (HasFirst ac ∷ steps_done) ac.kind) (cut_leaves steps_done none)
+    (λ ac. first_answered_turns transaction ac (HasFirst ac ∷ steps_done) none ac.kind)
     step.First _
 
-analysis_turns : (trade : Trade) (marks : List Mark) → list_any is_second marks ≡ false → Turns marks (analysis trade marks)
+analysis_turns : (transaction : TransactionData) (steps_done : List StepResult) → list_any is_second steps_done ≡ false → Turns steps_done (analysis transaction steps_done)
 unfolding analysis
-analysis_turns trade marks none = first_turns trade (kind_wanted trade marks) (HasAnalysed (kind_wanted trade marks) ∷ marks) none
+analysis_turns transaction steps_done none = first_turns transaction (kind_wanted transaction steps_done) (HasAnalysed (kind_wanted transaction steps_done) ∷ steps_done) none
 
-risk_at : (trade : Trade) (marks : List Mark) → list_any is_second marks ≡ false → (course : List (List ℕ) → Progress Judged)
-    → Turns marks (card_step (cut_off marks) step.Risk step.Risk marks course (λ judged. analysis trade (HasJudged judged ∷ marks)))
-risk_at trade marks none course =
-    card_turns (cut_off marks) step.Risk marks (λ judged. analysis trade (HasJudged judged ∷ marks)) (cut_leaves marks none)
-    (λ judged. analysis_turns trade (HasJudged judged ∷ marks) none)
+risk_turns_at : (transaction : TransactionData) (steps_done : List StepResult) → list_any is_second steps_done ≡ false → (course : List (List ℕ) → Progress Judged)
+    → Turns steps_done (card_step (cut_off steps_done) step.Risk step.Risk steps_done course (λ judged. analysis transaction (HasJudged judged ∷ steps_done)))
+risk_turns_at transaction steps_done none course =
+    card_turns (cut_off steps_done) step.Risk steps_done (λ judged. analysis transaction (HasJudged judged ∷ steps_done)) (cut_leaves steps_done none)
+    (λ judged. analysis_turns transaction (HasJudged judged ∷ steps_done) none)
     step.Risk course
 
-risk_turns : (trade : Trade) (marks : List Mark) → list_any is_second marks ≡ false → Turns marks (risk trade marks)
+risk_turns : (transaction : TransactionData) (steps_done : List StepResult) → list_any is_second steps_done ≡ false → Turns steps_done (risk transaction steps_done)
 unfolding risk
-risk_turns trade marks none = (λ log. (risk_at trade marks none _).0 log, λ log replies reply. (risk_at trade marks none _).1 log replies reply)
+risk_turns transaction steps_done none = (λ log. (risk_turns_at transaction steps_done none _).0 log, λ log replies reply. (risk_turns_at transaction steps_done none _).1 log replies reply)
 
-verification_turns : (trade : Trade) (marks : List Mark) → list_any is_second marks ≡ false → Turns marks (verification trade marks)
+verification_turns : (transaction : TransactionData) (steps_done : List StepResult) → list_any is_second steps_done ≡ false → Turns steps_done (verification transaction steps_done)
 unfolding verification
-verification_turns trade marks none =
-    card_turns (cut_off marks) step.Verify marks (λ verified. risk trade (HasVerified verified ∷ marks)) (cut_leaves marks none)
-    (λ verified. risk_turns trade (HasVerified verified ∷ marks) none)
+verification_turns transaction steps_done none =
+    card_turns (cut_off steps_done) step.Verify steps_done (λ verified. risk transaction (HasVerified verified ∷ steps_done)) (cut_leaves steps_done none)
+    (λ verified. risk_turns transaction (HasVerified verified ∷ steps_done) none)
     step.Verify _
 
-restrictions_turn : (trade : Trade) → Turns [] (restrictions trade)
+restrictions_turn : (transaction : TransactionData) → Turns [] (restrictions transaction)
 unfolding restrictions
-restrictions_turn trade = verification_turns trade _ refl
+restrictions_turn transaction = verification_turns transaction _ refl
 
-reading_turns : (deal : Deal) (row : AidRow) (at : Opened) → Turns [] (read deal row at)
+reading_turns : (outset : Outset) (row : AidRow) (at : Opened) → Turns [] (read outset row at)
 unfolding read
-reading_turns deal row at =
-    card_turns (cut_off []) step.Read [] (λ card. restrictions (record { deal = deal; row = row; card = card })) (cut_leaves [] refl)
-    (λ card. restrictions_turn (record { deal = deal; row = row; card = card }))
+reading_turns outset row at =
+    card_turns (cut_off []) step.Read [] (λ card. restrictions (record { outset = outset; row = row; card = card })) (cut_leaves [] refl)
+    (λ card. restrictions_turn (record { outset = outset; row = row; card = card }))
     step.Read _
 
-granted_turns : (deal : Deal) (row : AidRow) (others : Rest Mark) → Turns [] others → (at : Option Opened) → Turns [] (granted deal row others at)
-granted_turns deal row others turns None = turns
-granted_turns deal row others turns (Some at) = reading_turns deal row at
+granted_turns : (outset : Outset) (row : AidRow) (others : Rest StepResult) → Turns [] others → (at : Option Opened) → Turns [] (granted outset row others at)
+granted_turns outset row others turns None = turns
+granted_turns outset row others turns (Some at) = reading_turns outset row at
 
-initiation_turns : (deal : Deal) (selected : SelectedData) (others : Rest Mark) → Turns [] others → Turns [] (initiation deal selected others)
+initiation_turns : (outset : Outset) (selected : SelectedData) (others : Rest StepResult) → Turns [] others → Turns [] (initiation outset selected others)
 unfolding initiation
-initiation_turns deal selected others turns =
-    card_turns (cut_off []) step.Initiate [] (granted deal selected.row others) (cut_leaves [] refl) (granted_turns deal selected.row others turns)
+initiation_turns outset selected others turns =
+    card_turns (cut_off []) step.Initiate [] (granted outset selected.row others) (cut_leaves [] refl) (granted_turns outset selected.row others turns)
     step.Initiate _
 
-opened_turns : (deal : Deal) (others : Rest Mark) → Turns [] others → (selected : Option SelectedData) → Turns [] (opened deal others selected)
-opened_turns deal others turns None = turns
-opened_turns deal others turns (Some selected) = initiation_turns deal selected others turns
+opened_turns : (outset : Outset) (others : Rest StepResult) → Turns [] others → (selected : Option SelectedData) → Turns [] (initiation_or outset others selected)
+opened_turns outset others turns None = turns
+opened_turns outset others turns (Some selected) = initiation_turns outset selected others turns
 
-candidates_turn : (deal : Deal) (candidates : List CandidateData) → Turns [] (candidates_left deal candidates)
+candidates_turn : (outset : Outset) (candidates : List CandidateData) → Turns [] (candidates_left outset candidates)
 unfolding candidates_left
-candidates_turn deal [] = over_turns [] _ refl
-candidates_turn deal (candidate ∷ left) =
-    card_turns (cut_off []) step.Select [] (opened deal (candidates_left deal left)) (cut_leaves [] refl)
-    (opened_turns deal (candidates_left deal left) (candidates_turn deal left))
+candidates_turn outset [] = over_turns [] _ refl
+candidates_turn outset (candidate ∷ left) =
+    card_turns (cut_off []) step.Select [] (initiation_or outset (candidates_left outset left)) (cut_leaves [] refl)
+    (opened_turns outset (candidates_left outset left) (candidates_turn outset left))
     step.Select _
 
-dialogue_turns : (deal : Deal) → Turns [] (card_step (cut_off []) step.Power step.Select [] (selecting_by deal.settings.pse deal.settings.aids deal.purchase.confirm) (selected_then deal))
-dialogue_turns deal =
-    card_turns (cut_off []) step.Select [] (selected_then deal) (cut_leaves [] refl)
-    (λ selected. initiation_turns deal selected (candidates_left deal selected.left) (candidates_turn deal selected.left))
+dialogue_turns : (outset : Outset) → Turns [] (card_step (cut_off []) step.Power step.Select [] (selecting_by outset.settings.pse outset.settings.aids outset.purchase.confirm) (selected_then outset))
+dialogue_turns outset =
+    card_turns (cut_off []) step.Select [] (selected_then outset) (cut_leaves [] refl)
+    (λ selected. initiation_turns outset selected (candidates_left outset selected.left) (candidates_turn outset selected.left))
     step.Power _
 
-pub replies_turn : (deal : Deal) (replies : List Reply) (reply : Reply) → (dialogue deal (replies ++ reply ∷ []) ≡ dialogue deal replies) ⊎ Turned (dialogue deal replies) reply (dialogue deal (replies ++ reply ∷ []))
+pub replies_turn : (outset : Outset) (replies : List Reply) (reply : Reply) → (dialogue outset (replies ++ reply ∷ []) ≡ dialogue outset replies) ⊎ Turned (dialogue outset replies) reply (dialogue outset (replies ++ reply ∷ []))
 unfolding dialogue
-replies_turn deal replies reply = (dialogue_turns deal).1 [] replies reply
+replies_turn outset replies reply = (dialogue_turns outset).1 [] replies reply
 
-pub uncut_at_first : (deal : Deal) → AsBefore [] (dialogue deal [])
+pub uncut_at_first : (outset : Outset) → AsBefore [] (dialogue outset [])
 unfolding dialogue
-uncut_at_first deal = (dialogue_turns deal).0 []
+uncut_at_first outset = (dialogue_turns outset).0 []
 
 -- a kernel that asks its card, and one that it becomes where the card is gone
-pub gone_leaves : (k k2 : KernelData) (replies : List Reply) → KernelFits k → KernelStands k replies → next_of k ≡ next.ToCard → deal_in k2 ≡ deal_in k
-    → KernelFits k2 → KernelStands k2 (replies ++ CardGone ∷ []) → next_of k2 ≡ next.Ended
-    → LeavesBy (list_any is_second (dialogue (deal_in k) replies).marks) (dialogue (deal_in k) replies).marks (dialogue (deal_in k) (replies ++ CardGone ∷ []))
+pub gone_leaves : (k k2 : KernelData) (replies : List Reply) → KernelFits k → KernelStands k replies → kernel_next k ≡ next.ToCard → outset_in k2 ≡ outset_in k
+    → KernelFits k2 → KernelStands k2 (replies ++ CardGone ∷ []) → kernel_next k2 ≡ next.Ended
+    → LeavesBy (list_any is_second (dialogue (outset_in k) replies).steps_done) (dialogue (outset_in k) replies).steps_done (dialogue (outset_in k) (replies ++ CardGone ∷ []))
 gone_leaves k k2 replies fits is waits same fits2 is2 ended =
-    let before : told_next (dialogue (deal_in k) replies) ≡ next.ToCard = sym (next_is_told k replies fits is) ∙ waits in
-    let behind : told_next (dialogue (deal_in k) (replies ++ CardGone ∷ [])) ≡ next.Ended =
-    ap (λ (deal : Deal). told_next (dialogue deal (replies ++ CardGone ∷ []))) (sym same) ∙ sym (next_is_told k2 (replies ++ CardGone ∷ []) fits2 is2) ∙ ended in
-    elim (replies_turn (deal_in k) replies CardGone) [
-      | inl alike ↦ let clash : next.ToCard ≡ next.Ended = sym before ∙ ap told_next (sym alike) ∙ behind in absurd (cc clash)
+    let before : standing_next (dialogue (outset_in k) replies) ≡ next.ToCard = sym (next_is_told k replies fits is) ∙ waits in
+    let behind : standing_next (dialogue (outset_in k) (replies ++ CardGone ∷ [])) ≡ next.Ended =
+    ap (λ (outset : Outset). standing_next (dialogue outset (replies ++ CardGone ∷ []))) (sym same) ∙ sym (next_is_told k2 (replies ++ CardGone ∷ []) fits2 is2) ∙ ended in
+    elim (replies_turn (outset_in k) replies CardGone) [
+      | inl alike ↦ let clash : next.ToCard ≡ next.Ended = sym before ∙ ap standing_next (sym alike) ∙ behind in absurd (cc clash)
       | inr turned ↦ turned
     ]

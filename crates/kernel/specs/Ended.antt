@@ -4,24 +4,24 @@ use Rattle.std.specs.Prelude.{ℕ, Bool, false, List, [], ◌∷◌, Option, Som
 use Rattle.emv_dict.specs.declared.ending.Ending.{Ending}
 use Rattle.emv_dict.specs.declared.ending.Ending.TheVariants.{Approved, Declined, Terminated, CutOff}
 use Rattle.env_map.specs.Entries.{value_of}
-use Rattle.kernel.specs.Course.{Standing}
+use Rattle.kernel.specs.StepsInTurn.{Standing}
 use Rattle.kernel.specs.Reply.{Deed, ToCard, ToHost, Over}
 use Rattle.object_lists.specs.CardRead.{ReadCard}
-use Rattle.object_lists.specs.DolEntries.{DolEntry, dol_of, place_of}
+use Rattle.object_lists.specs.DolEntries.{DolEntry, dol_of, data_place}
 use Rattle.object_lists.specs.declared.dol.DolFault.{DolFault}
 use Rattle.online_step.specs.Captures.{presentment_of, reversal_of}
-use Rattle.terminal_state.specs.Marks.{Mark, MomentData, moment, latest, card_of}
-use Rattle.terminal_state.specs.Terminal.{Deal}
+use Rattle.terminal_state.specs.StepResults.{StepResult, StateSoFarData, state_so_far, latest, sets_card}
+use Rattle.terminal_state.specs.Terminal.{Outset}
 
 -- the card's data are there exactly where reading is finished; `capture` are the bytes of the message
 pub record EndData : Type 0 where
   pub ending : Ending
-  pub moment : MomentData
+  pub state_so_far : StateSoFarData
   pub card : Option ReadCard
   pub capture : Option (List ℕ)
 
 abbrev pub names_results : Result (List DolEntry) DolFault → Bool
-names_results (Ok entries) = is_some (place_of 0x95 5 entries)
+names_results (Ok entries) = is_some (data_place 0x95 5 entries)
 names_results (Err fault) = false
 
 -- an object list of the card has an entry of five bytes for the terminal verification results
@@ -39,36 +39,36 @@ abbrev pub code_or_zeros : Option (List ℕ) → List ℕ
 code_or_zeros code = unwrap_or code (0 ∷ 0 ∷ [])
 
 -- an approval is presented, with the cryptogram that approved
-unfoldable pub presentment : Deal → ReadCard → MomentData → Option (List ℕ)
-presentment deal card moment =
-    option_map (λ ac. presentment_of card deal.settings deal.purchase
-    (results_behind card moment.tvr_when_first moment.tvr_when_second) ac (code_or_zeros moment.code)) moment.last
+unfoldable pub presentment : Outset → ReadCard → StateSoFarData → Option (List ℕ)
+presentment outset card state_so_far =
+    option_map (λ ac. presentment_of card outset.settings outset.purchase
+    (results_behind card state_so_far.tvr_when_first state_so_far.tvr_when_second) ac (code_or_zeros state_so_far.code)) state_so_far.last
 
 -- a request that may have been approved is reversed, where the payment ended otherwise
-unfoldable pub reversal : Deal → ReadCard → MomentData → Option (List ℕ)
-reversal deal card moment =
-    if moment.is_open then option_map (λ counter. reversal_of card deal.settings deal.purchase counter (code_or_zeros moment.code)) moment.counter
+unfoldable pub reversal : Outset → ReadCard → StateSoFarData → Option (List ℕ)
+reversal outset card state_so_far =
+    if state_so_far.is_open then option_map (λ counter. reversal_of card outset.settings outset.purchase counter (code_or_zeros state_so_far.code)) state_so_far.counter
     else None
 
-abbrev pub capture_by : Deal → Ending → ReadCard → MomentData → Option (List ℕ)
-capture_by deal (Approved online) card moment = presentment deal card moment
-capture_by deal (Declined online) card moment = reversal deal card moment
-capture_by deal (Terminated step cause) card moment = reversal deal card moment
-capture_by deal (CutOff step) card moment = reversal deal card moment
+abbrev pub capture_by : Outset → Ending → ReadCard → StateSoFarData → Option (List ℕ)
+capture_by outset (Approved online) card state_so_far = presentment outset card state_so_far
+capture_by outset (Declined online) card state_so_far = reversal outset card state_so_far
+capture_by outset (Terminated step cause) card state_so_far = reversal outset card state_so_far
+capture_by outset (CutOff step) card state_so_far = reversal outset card state_so_far
 
 -- nothing is captured before the card is read
-abbrev pub capture : Deal → Ending → Option ReadCard → MomentData → Option (List ℕ)
-capture deal ending None moment = None
-capture deal ending (Some card) moment = capture_by deal ending card moment
+abbrev pub capture : Outset → Ending → Option ReadCard → StateSoFarData → Option (List ℕ)
+capture outset ending None state_so_far = None
+capture outset ending (Some card) state_so_far = capture_by outset ending card state_so_far
 
-abbrev pub end_with : Deal → Ending → Option ReadCard → MomentData → EndData
-end_with deal ending card moment = record { ending = ending; moment = moment; card = card; capture = capture deal ending card moment }
+abbrev pub end_with : Outset → Ending → Option ReadCard → StateSoFarData → EndData
+end_with outset ending card state_so_far = record { ending = ending; state_so_far = state_so_far; card = card; capture = capture outset ending card state_so_far }
 
-abbrev pub end_by : Deal → List Mark → Deed → Option EndData
-end_by deal marks (ToCard command) = None
-end_by deal marks (ToHost message) = None
-end_by deal marks (Over ending) = Some (end_with deal ending (latest card_of None marks) (moment marks))
+abbrev pub end_by : Outset → List StepResult → Deed → Option EndData
+end_by outset steps_done (ToCard command) = None
+end_by outset steps_done (ToHost message) = None
+end_by outset steps_done (Over ending) = Some (end_with outset ending (latest sets_card None steps_done) (state_so_far steps_done))
 
 -- the end record, where the dialogue is over
-abbrev pub end_of : Deal → Standing Mark → Option EndData
-end_of deal standing = end_by deal standing.marks standing.deed
+abbrev pub end_of : Outset → Standing StepResult → Option EndData
+end_of outset standing = end_by outset standing.steps_done standing.deed

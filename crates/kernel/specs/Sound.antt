@@ -20,6 +20,6 @@ pub record IsIssuerData (value : List ℕ) : Type 0 where
   pub most : length value ≤ 16
 
 -- and the scripts have at most 1,024 bytes
-pub record IsSound (reply : ReplyData) : Type 0 where
+pub record IsReplyInRange (reply : ReplyData) : Type 0 where
   pub auth : IfSome reply.auth IsIssuerData
   pub short : length reply.scripts ≤ 1024

@@ -10,12 +10,12 @@ pub record Counts : Type 0 where
   pub replies : ℕ
 
 -- a number that stops at the greatest one of 64 bits
-abbrev pub plus : ℕ → ℕ → ℕ
-plus a b = min (a + b) (2 ^ 64 - 1)
+abbrev pub capped_plus : ℕ → ℕ → ℕ
+capped_plus a b = min (a + b) (2 ^ 64 - 1)
 
 -- one dialogue more with this ending, which took so many replies
 abbrev pub raised : Counts → Ending → ℕ → Counts
-raised counts (Approved online) taken = record counts { approved = plus counts.approved 1; replies = plus counts.replies taken }
-raised counts (Declined online) taken = record counts { declined = plus counts.declined 1; replies = plus counts.replies taken }
-raised counts (Terminated step cause) taken = record counts { other = plus counts.other 1; replies = plus counts.replies taken }
-raised counts (CutOff step) taken = record counts { other = plus counts.other 1; replies = plus counts.replies taken }
+raised counts (Approved online) taken = record counts { approved = capped_plus counts.approved 1; replies = capped_plus counts.replies taken }
+raised counts (Declined online) taken = record counts { declined = capped_plus counts.declined 1; replies = capped_plus counts.replies taken }
+raised counts (Terminated step cause) taken = record counts { other = capped_plus counts.other 1; replies = capped_plus counts.replies taken }
+raised counts (CutOff step) taken = record counts { other = capped_plus counts.other 1; replies = capped_plus counts.replies taken }

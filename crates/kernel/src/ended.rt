@@ -6,7 +6,7 @@ ghost use Rattle.emv_dict.specs.Settings.{IsPurchase};
 ghost use Rattle.env_map.specs.Entries.{value_of};
 ghost use Rattle.kernel.specs.Ended as spec;
 ghost use Rattle.kernel.specs.Kernel.{stage_next, trading_next};
-ghost use Rattle.kernel.specs.Shown.{shown, stage_over, trading_over};
+ghost use Rattle.kernel.specs.EndShown.{shown_end, stage_over, trading_over};
 
 use crate::kernel::Next;
 use crate::stage::{Opening, Stage, Trading};
@@ -17,7 +17,7 @@ use emv_dict::{Ac, Digits, Ending, Purchase, Settings, Tsi, Tvr};
 use object_lists::{CardData, place, read_dol};
 use online_step::{Approval, presentment, reversal};
 use std::marker::Model;
-use terminal_state::Moment;
+use terminal_state::StateSoFar;
 
 /// The object list of the second GENERATE AC (CDOL2).
 const SECOND_LIST: Tag = Tag(0x8d);
@@ -76,7 +76,7 @@ pub struct EndRecord {
 }
 
 impl Model for EndRecord {
-    ghost use Rattle.kernel.specs.Shown.{EndShown};
+    ghost use Rattle.kernel.specs.EndShown.{EndShown};
 
     ghost Value = { EndShown };
 
@@ -108,7 +108,7 @@ pub struct Ended {
 }
 
 impl Model for Ended {
-    ghost use Rattle.kernel.specs.Shown.{EndedData};
+    ghost use Rattle.kernel.specs.EndShown.{EndedData};
 
     ghost Value = { EndedData };
 
@@ -188,15 +188,15 @@ fn trading_ending(trading: &Trading<'_>) -> Ending
 pub(crate) fn end_record(
     settings: &Settings,
     purchase: &Purchase,
-    moment: Moment,
+    state_so_far: StateSoFar,
     card: Option<&CardData>,
     ending: Ending,
 ) -> EndRecord
     requires { IsPurchase purchase.now }
-    ensures { result ≡ shown (spec.end_with (record { settings = settings.now; purchase = purchase.now }) ending (option_map (λ card. card.now) card.entry) moment) }
+    ensures { result ≡ shown_end (spec.end_with (record { settings = settings.now; purchase = purchase.now }) ending (option_map (λ card. card.now) card.entry) state_so_far) }
 {
-    let capture = captured(settings, purchase, &moment, card, ending);
-    let Moment {
+    let capture = captured(settings, purchase, &state_so_far, card, ending);
+    let StateSoFar {
         tvr,
         tsi,
         results,
@@ -209,7 +209,7 @@ pub(crate) fn end_record(
         tvr_when_first: _,
         tvr_when_second: _,
         scripts,
-    } = moment;
+    } = state_so_far;
     EndRecord {
         ending,
         tvr,
@@ -236,21 +236,21 @@ fn account_number(card: Option<&CardData>) -> Option<Digits>
 fn captured(
     settings: &Settings,
     purchase: &Purchase,
-    moment: &Moment,
+    state_so_far: &StateSoFar,
     card: Option<&CardData>,
     ending: Ending,
 ) -> Option<Capture>
     requires { IsPurchase purchase.now }
-    ensures { result ≡ spec.capture (record { settings = settings.now; purchase = purchase.now }) ending (option_map (λ card. card.now) card.entry) moment.now }
+    ensures { result ≡ spec.capture (record { settings = settings.now; purchase = purchase.now }) ending (option_map (λ card. card.now) card.entry) state_so_far.now }
 {
     let Some(card) = card else {
         return None;
     };
     match ending {
-        Ending::Approved { .. } => presented(settings, purchase, moment, card),
-        Ending::Declined { .. } => reversed(settings, purchase, moment, card),
-        Ending::Terminated(..) => reversed(settings, purchase, moment, card),
-        Ending::CutOff(..) => reversed(settings, purchase, moment, card),
+        Ending::Approved { .. } => presented(settings, purchase, state_so_far, card),
+        Ending::Declined { .. } => reversed(settings, purchase, state_so_far, card),
+        Ending::Terminated(..) => reversed(settings, purchase, state_so_far, card),
+        Ending::CutOff(..) => reversed(settings, purchase, state_so_far, card),
     }
 }
 
@@ -259,20 +259,24 @@ fn captured(
 fn presented(
     settings: &Settings,
     purchase: &Purchase,
-    moment: &Moment,
+    state_so_far: &StateSoFar,
     card: &CardData,
 ) -> Option<Capture>
     requires { IsPurchase purchase.now }
-    ensures { result ≡ spec.presentment (record { settings = settings.now; purchase = purchase.now }) card.now moment.now }
+    ensures { result ≡ spec.presentment (record { settings = settings.now; purchase = purchase.now }) card.now state_so_far.now }
 {
-    let Some(ac) = &moment.last else {
+    let Some(ac) = &state_so_far.last else {
         return None;
     };
-    let tvr = results_behind(card, moment.tvr_when_first, moment.tvr_when_second);
+    let tvr = results_behind(
+        card,
+        state_so_far.tvr_when_first,
+        state_so_far.tvr_when_second,
+    );
     let approval = Approval {
         tvr,
         ac,
-        code: code_or_zeros(moment.code),
+        code: code_or_zeros(state_so_far.code),
     };
     let mut message = Message::new();
     presentment(card, settings, purchase, &approval, &mut message);
@@ -284,16 +288,16 @@ fn presented(
 fn reversed(
     settings: &Settings,
     purchase: &Purchase,
-    moment: &Moment,
+    state_so_far: &StateSoFar,
     card: &CardData,
 ) -> Option<Capture>
     requires { IsPurchase purchase.now }
-    ensures { result ≡ spec.reversal (record { settings = settings.now; purchase = purchase.now }) card.now moment.now }
+    ensures { result ≡ spec.reversal (record { settings = settings.now; purchase = purchase.now }) card.now state_so_far.now }
 {
-    if !moment.is_open {
+    if !state_so_far.is_open {
         return None;
     }
-    let Some(counter) = moment.counter else {
+    let Some(counter) = state_so_far.counter else {
         return None;
     };
     let mut message = Message::new();
@@ -302,7 +306,7 @@ fn reversed(
         settings,
         purchase,
         counter,
-        code_or_zeros(moment.code),
+        code_or_zeros(state_so_far.code),
         &mut message,
     );
     Some(Capture { message })

@@ -1,22 +1,22 @@
 //! Initiate application processing (EMV 4.3 Book 3 section 10.1).
-ghost use Rattle.std.specs.Prelude.{◌≡◌, ◌≤◌, ◌<◌, ◌+◌, ◌*◌, [], ◌∷◌, ℕ, List, length, Option};
+ghost use Rattle.std.specs.Prelude.{◌≡◌, ◌+◌, ◌*◌, [], ℕ, List, length, Option};
 ghost use Rattle.app_select.specs.Leading.{selected_with};
 ghost use Rattle.emv_dict.specs.Progress.{Progress};
 ghost use Rattle.emv_dict.specs.declared.ending.Step.TheVariants as step;
 ghost use Rattle.emv_dict.specs.declared.purchase.Logged.{Logged};
-ghost use Rattle.kernel.specs.Course.{Standing, card_step, cut_off};
+ghost use Rattle.kernel.specs.StepsInTurn.{Standing, card_step, cut_off};
 ghost use Rattle.kernel.specs.Dialogue.{initiation, candidates_left, granted};
-ghost use Rattle.kernel.specs.Fits.{OpeningFits, IsUnread};
-ghost use Rattle.kernel.specs.Rank.{opening_rank, rank_behind};
-ghost use Rattle.kernel.specs.Reply.{Reply, CardSaid};
+ghost use Rattle.kernel.specs.Fits.{IsUnread, OptionsFit};
+ghost use Rattle.kernel.specs.Rank.{rank_behind};
+ghost use Rattle.kernel.specs.Reply.{Reply};
 ghost use Rattle.kernel.specs.Stages.{OpeningStands};
+ghost use Rattle.kernel.specs.Steps.{OpeningTakes, OpensAs};
 ghost use Rattle.kernel.specs.declared.stage.Opening.TheVariants as stage;
 ghost use Rattle.read_records.specs.Afl.{most_records};
-ghost use Rattle.object_lists.specs.Checked.{HasOptions};
-ghost use Rattle.read_records.specs.Leading.{OptionsNextLeads, IsBegun, begun_next};
+ghost use Rattle.read_records.specs.Leading.{OptionsNextLeads};
 ghost use Rattle.read_records.specs.Options.{Opened};
-ghost use Rattle.terminal_state.specs.Marks.{Mark, moment};
-ghost use Rattle.terminal_state.specs.Table.{IsDeal, deal_of};
+ghost use Rattle.terminal_state.specs.StepResults.{StepResult};
+ghost use Rattle.terminal_state.specs.Table.{outset_of};
 
 use crate::reading::ask_record;
 use crate::selection::search_next;
@@ -27,25 +27,21 @@ use read_records::{Initiating, OptionsNext};
 use terminal_state::{Table, put_terminal};
 
 /// GET PROCESSING OPTIONS is asked.
-#[tactic(auto, unfolding(crate::specs::Dialogue::initiation))]
+#[tactic(auto, unfolding(crate::specs::InitiateProcessing::initiation))]
 pub(crate) fn initiate<'s>(table: &mut Table<'s>, choice: Choice<'s>) -> Opening<'s>
-    requires deal { IsDeal (deal_of table.old) }
-    requires objects { table.old.objects ≡ [] }
-    requires moment { table.old.moment ≡ moment [] }
-    ensures stands { (log : List Logged) (rest : List Reply → Standing Mark)
+    requires fits { IsUnread table.old }
+    ensures stands { (log : List Logged) (rest : List Reply → Standing StepResult)
         → ((later : List Reply) → rest later
-        ≡ initiation (deal_of table.old) (selected_with choice.entry table.old.candidates) (candidates_left (deal_of table.old) table.old.candidates) log later)
+        ≡ initiation (outset_of table.old) (selected_with choice.entry table.old.candidates) (candidates_left (outset_of table.old) table.old.candidates) log later)
         → OpeningStands table.new result log rest }
-    ensures same { deal_of table.new ≡ deal_of table.old }
-    ensures few { opening_rank table.new result ≤ 1 + 2 * length table.old.candidates + (most_records + rank_behind table.old) }
-    ensures fits { OpeningFits table.new result }
+    ensures step { OpensAs table.old table.new result (2 + 2 * length table.old.candidates + (most_records + rank_behind table.old)) }
 {
     put_terminal(
         &mut table.objects,
         table.settings,
         table.purchase,
         choice.row(),
-        &table.moment,
+        &table.state_so_far,
     );
     let begun = Initiating::begin(choice.pdol(), &table.objects);
     table.objects.clear();
@@ -64,14 +60,9 @@ pub(crate) fn on_initiate<'s>(
     state: AtInitiate<'s>,
     reply: &[u8],
 ) -> Opening<'s>
-    requires deal { IsDeal (deal_of table.old) }
     requires fits { IsUnread table.old }
-    ensures stands { (before now : List Logged) (rest : List Reply → Standing Mark)
-        → OpeningStands table.old (stage.Initiate state.entry) before rest
-        → OpeningStands table.new result now (λ later. rest (CardSaid reply.now now ∷ later)) }
-    ensures same { deal_of table.new ≡ deal_of table.old }
-    ensures nearer { opening_rank table.new result < 1 + 2 * length table.old.candidates + (most_records + rank_behind table.old) }
-    ensures fits { OpeningFits table.new result }
+    ensures stands { OpeningTakes table.old table.new (stage.Initiate state.entry) result reply.now }
+    ensures step { OpensAs table.old table.new result (1 + 2 * length table.old.candidates + (most_records + rank_behind table.old)) }
 {
     let AtInitiate { initiating, choice } = state;
     let next = initiating.take_into(&mut table.objects, reply);
@@ -80,19 +71,13 @@ pub(crate) fn on_initiate<'s>(
 
 /// What follows the answer to GET PROCESSING OPTIONS.
 fn initiate_next<'s>(table: &mut Table<'s>, choice: Choice<'s>, next: OptionsNext) -> Opening<'s>
-    requires deal { IsDeal (deal_of table.old) }
-    requires refused { next ≡ OptionsNext.Refused → table.old.objects ≡ [] }
-    requires begun { IsBegun next → HasOptions table.old.objects }
-    requires moment { table.old.moment ≡ moment [] }
-    requires few { length (begun_next next) ≤ most_records }
-    ensures stands { (log : List Logged) (course : List (List ℕ) → Progress (Option Opened)) (rest : List Reply → Standing Mark)
+    requires fits { OptionsFit table.old next }
+    ensures stands { (log : List Logged) (course : List (List ℕ) → Progress (Option Opened)) (rest : List Reply → Standing StepResult)
         → ((later : List Reply) → rest later ≡ card_step (cut_off []) step.Initiate step.Initiate [] course
-        (granted (deal_of table.old) choice.entry.row (candidates_left (deal_of table.old) table.old.candidates)) log later)
+        (granted (outset_of table.old) choice.entry.row (candidates_left (outset_of table.old) table.old.candidates)) log later)
         → OptionsNextLeads table.old.objects course [] next
         → OpeningStands table.new result log rest }
-    ensures same { deal_of table.new ≡ deal_of table.old }
-    ensures few { opening_rank table.new result ≤ 2 * length table.old.candidates + (most_records + rank_behind table.old) }
-    ensures fits { OpeningFits table.new result }
+    ensures step { OpensAs table.old table.new result (1 + 2 * length table.old.candidates + (most_records + rank_behind table.old)) }
 {
     match next {
         OptionsNext::Refused => {

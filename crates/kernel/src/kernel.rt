@@ -4,10 +4,10 @@ ghost use Rattle.auth_message.specs.Whole.{IsMessage};
 ghost use Rattle.emv_dict.specs.Settings.{IsSettings, IsPurchase};
 ghost use Rattle.kernel.specs.BeginEnd.{HasBegun};
 ghost use Rattle.kernel.specs.Dialogue.{dialogue};
+ghost use Rattle.kernel.specs.Kernel.{KernelStands, outset_in, kernel_next, standing_next, told_bytes};
 ghost use Rattle.kernel.specs.Kernel as spec;
-ghost use Rattle.kernel.specs.Kernel.{KernelStands, deal_in, next_of, told_next, told_bytes};
 ghost use Rattle.kernel.specs.Reply.{Reply};
-ghost use Rattle.terminal_state.specs.Marks.{latest, card_of};
+ghost use Rattle.terminal_state.specs.StepResults.{latest, sets_card};
 
 use crate::selection;
 use crate::stage::{Opening, Stage, Trading};
@@ -18,8 +18,9 @@ use emv_dict::{Purchase, Settings};
 use env_map::Env;
 use object_lists::CardData;
 use std::marker::Model;
-use terminal_state::{HeldCard, HostReply, Moment, Table};
+use terminal_state::{HeldCard, HostReply, StateSoFar, Table};
 
+mod by_value;
 mod finish;
 mod taking;
 mod turns;
@@ -72,8 +73,9 @@ impl<'s> Kernel<'s> {
                 settings,
                 purchase,
                 candidates: Candidates::new(settings),
-                moment: Moment::new(),
+                state_so_far: StateSoFar::new(),
                 reply: HostReply::none(),
+                running: None,
                 objects: Env::new(),
                 command,
                 message: ArrayVec::new(),
@@ -102,8 +104,8 @@ impl<'s> Kernel<'s> {
 
     /// What the terminal waits for.
     pub fn next(&self) -> Next
-        ensures exact { result ≡ next_of self.now }
-        ensures told { (replies : List Reply) → KernelStands self.now replies → result ≡ told_next (dialogue (deal_in self.now) replies) }
+        ensures exact { result ≡ kernel_next self.now }
+        ensures told { (replies : List Reply) → KernelStands self.now replies → result ≡ standing_next (dialogue (outset_in self.now) replies) }
     {
         stage_next(&self.stage)
     }
@@ -111,11 +113,11 @@ impl<'s> Kernel<'s> {
     /// The command or the message to send, empty where the dialogue is over. A command has at most 261
     /// bytes, and a message at most 2,048.
     pub fn bytes(&self) -> &[u8]
-        ensures told { (replies : List Reply) → KernelStands self.now replies → result.now ≡ told_bytes (dialogue (deal_in self.now) replies) }
-        ensures command { next_of self.now ≡ Next.ToCard → length result.now ≤ 261 }
+        ensures told { (replies : List Reply) → KernelStands self.now replies → result.now ≡ told_bytes (dialogue (outset_in self.now) replies) }
+        ensures command { kernel_next self.now ≡ Next.ToCard → length result.now ≤ 261 }
         ensures short { length result.now ≤ 2048 }
         // The host reads it.
-        ensures read { next_of self.now ≡ Next.ToHost → IsMessage result.now }
+        ensures read { kernel_next self.now ≡ Next.ToHost → IsMessage result.now }
     {
         bytes_by(&self.table, stage_next(&self.stage))
     }
@@ -131,7 +133,7 @@ impl<'s> Kernel<'s> {
     pub fn data(&self) -> Option<&CardData>
         ensures exact { option_map (λ card. card.now) result ≡ self.now.card }
         ensures told { (replies : List Reply) → KernelStands self.now replies
-            → option_map (λ card. card.now) result ≡ latest card_of None (dialogue (deal_in self.now) replies).marks }
+            → option_map (λ card. card.now) result ≡ latest sets_card None (dialogue (outset_in self.now) replies).steps_done }
     {
         self.card.get()
     }

@@ -1,23 +1,22 @@
 //! Online processing: the request, the host's reply, and issuer authentication (EMV 4.3 Book 3 section 10.9).
-ghost use Rattle.std.specs.Prelude.{◌≡◌, ◌∷◌, ◌+◌, ◌≤◌, ◌<◌, List, IfSome, length, option_map, Some, None, IsSome};
+ghost use Rattle.std.specs.Prelude.{◌≡◌, ◌∷◌, ◌+◌, ◌≤◌, List, IfSome, length, option_map, Some, None, IsSome};
 ghost use Rattle.action_analysis.specs.Analysed as spec;
 ghost use Rattle.auth_message.specs.Whole.{IsMessage};
 ghost use Rattle.ber_tlv.specs.Left.{items_of};
 ghost use Rattle.emv_dict.specs.Views.{AcData};
 ghost use Rattle.emv_dict.specs.declared.purchase.Logged.{Logged};
-ghost use Rattle.kernel.specs.Course.{Standing};
-ghost use Rattle.kernel.specs.Dialogue.{authentication, has_authentication as authentication_test, online, unable_online, is_offline_only as offline_test};
-ghost use Rattle.kernel.specs.Rank.{trading_rank, bytes_in, most_scripts};
-ghost use Rattle.kernel.specs.Reply.{Reply, CardSaid, HostSaid, HostSilent};
-ghost use Rattle.kernel.specs.Sound.{IsSound, IsIssuerData};
-ghost use Rattle.kernel.specs.Stages.{TradingStands, Begins, HasRoom, scripts_left, HasMessage};
-ghost use Rattle.kernel.specs.Trades.{trade_of};
+ghost use Rattle.kernel.specs.Dialogue.{issuer_authentication, has_authentication as authentication_test, online, unable_online, is_offline_only as offline_test};
+ghost use Rattle.kernel.specs.Rank.{bytes_in_templates, most_scripts};
+ghost use Rattle.kernel.specs.Reply.{HostSaid, HostSilent};
+ghost use Rattle.kernel.specs.Sound.{IsReplyInRange, IsIssuerData};
+ghost use Rattle.kernel.specs.Stages.{HasRoomForResults};
+ghost use Rattle.kernel.specs.Steps.{BeginsAs, StepComes, TakesAnswer, TakesReply};
+ghost use Rattle.kernel.specs.Transactions.{transaction_of};
 ghost use Rattle.kernel.specs.declared.stage.Trading.TheVariants as stage;
 ghost use Rattle.online_step.specs.Request.{request_of};
 ghost use Rattle.online_step.specs.TerminalData.{HasTerminalData};
-ghost use Rattle.terminal_state.specs.Marks.{Mark, HasReply, latest, ac_of};
-ghost use Rattle.terminal_state.specs.Scripts.{templates, are_few as few_test, kept as kept_reply};
-ghost use Rattle.terminal_state.specs.Table.{deal_of};
+ghost use Rattle.terminal_state.specs.StepResults.{StepResult, HasReply, latest, sets_ac};
+ghost use Rattle.terminal_state.specs.Scripts.{templates_of_tag, has_few_scripts as few_test, kept_host_reply as kept_reply};
 ghost use Rattle.terminal_state.specs.Terminal.{terminal_objects};
 
 use crate::issuer_scripts::run_before;
@@ -31,31 +30,26 @@ use emv_dict::{Ending, Kind, Settings, Step};
 use env_map::Env;
 use object_lists::CardData;
 use online_step::{authenticate_command, read_verdict, request};
-use terminal_state::moment::kept;
-use terminal_state::{HostReply, Moment, OnlineRequest, Table, put_terminal};
+use terminal_state::state_so_far::kept;
+use terminal_state::{HostReply, OnlineRequest, StateSoFar, Table, put_terminal};
 
 /// The most script templates of a reply.
 const MOST_TEMPLATES: usize = 8;
 
 /// The issuer is asked, where the terminal can go online.
 pub(crate) fn go_online<'s>(table: &mut Table<'s>, transaction: &Transaction<'_, 's>) -> Trading<'s>
-    requires room { HasRoom table.old 8 }
-    requires last { IsSome table.old.moment.last }
-    ensures stands { (marks : List Mark) (log : List Logged) (ac : AcData) (rest : List Reply → Standing Mark)
-        → latest ac_of None marks ≡ Some ac
-        → Begins table.old transaction.now.card.now marks rest (online (trade_of transaction.now) ac marks log)
-        → TradingStands table.new (trade_of transaction.now) result log rest }
-    ensures same { deal_of table.new ≡ deal_of table.old }
-    ensures few { trading_rank table.new.reply.scripts result ≤ 3 + most_scripts }
-    ensures room { HasRoom table.new (scripts_left table.new.reply.scripts result) }
-    ensures asked { HasMessage table.new result }
+    requires room { HasRoomForResults table.old 8 }
+    requires last { IsSome table.old.state_so_far.last }
+    ensures stands { (steps_done : List StepResult) (log : List Logged) (ac : AcData) → latest sets_ac None steps_done ≡ Some ac
+        → BeginsAs table.old table.new (transaction_of transaction.now) result steps_done log (online (transaction_of transaction.now) ac steps_done log) }
+    ensures step { StepComes table.old table.new result (4 + most_scripts) }
 {
     if is_offline_only(transaction.settings) {
         return be_unable(table, transaction, OnlineRequest::NotSent);
     }
-    put_objects(&mut table.objects, transaction, &table.moment);
+    put_objects(&mut table.objects, transaction, &table.state_so_far);
     write_online(
-        &table.moment,
+        &table.state_so_far,
         &table.objects,
         transaction,
         &mut table.message,
@@ -71,13 +65,13 @@ fn is_offline_only(settings: &Settings) -> bool
 }
 
 /// Puts the terminal's objects, those that go into a request among them.
-fn put_objects(env: &mut Env, transaction: &Transaction<'_, '_>, moment: &Moment)
-    ensures objects { env.new ≡ terminal_objects (trade_of transaction.now).deal transaction.now.row.now moment.now }
+fn put_objects(env: &mut Env, transaction: &Transaction<'_, '_>, state_so_far: &StateSoFar)
+    ensures objects { env.new ≡ terminal_objects (transaction_of transaction.now).outset transaction.now.row.now state_so_far.now }
     ensures request { HasTerminalData env.new }
 {
     let settings = transaction.settings;
     let purchase = transaction.purchase;
-    put_terminal(env, settings, purchase, transaction.row, moment);
+    put_terminal(env, settings, purchase, transaction.row, state_so_far);
     has_length(settings.id);
     has_length(settings.country);
     has_length(purchase.currency);
@@ -94,18 +88,18 @@ fn has_length<const N: usize>(bytes: [u8; N])
 
 /// The request for the cryptogram that the card answered last.
 fn write_online(
-    moment: &Moment,
+    state_so_far: &StateSoFar,
     objects: &Env,
     transaction: &Transaction<'_, '_>,
     out: &mut Message,
 )
-    requires last { IsSome moment.now.last }
+    requires last { IsSome state_so_far.now.last }
     requires objects { HasTerminalData objects.now }
-    ensures exact { (ac : AcData) → moment.now.last ≡ Some ac
-        → out.new.items ≡ request_of transaction.now.card.now objects.now transaction.now.settings.now ac moment.now.pin }
+    ensures exact { (ac : AcData) → state_so_far.now.last ≡ Some ac
+        → out.new.items ≡ request_of transaction.now.card.now objects.now transaction.now.settings.now ac state_so_far.now.pin }
     ensures read { IsMessage out.new.items }
 {
-    let Some(ac) = moment.last() else {
+    let Some(ac) = state_so_far.last() else {
         unreachable!();
     };
     request(
@@ -113,7 +107,7 @@ fn write_online(
         objects,
         transaction.settings,
         ac,
-        moment.pin(),
+        state_so_far.pin(),
         out,
     );
 }
@@ -124,14 +118,9 @@ pub(crate) fn on_reply<'s>(
     transaction: &Transaction<'_, 's>,
     reply: &[u8],
 ) -> Trading<'s>
-    requires room { HasRoom table.old 8 }
-    ensures stands { (log : List Logged) (rest : List Reply → Standing Mark)
-        → TradingStands table.old (trade_of transaction.now) stage.Online log rest
-        → TradingStands table.new (trade_of transaction.now) result log (λ later. rest (HostSaid reply.now ∷ later)) }
-    ensures same { deal_of table.new ≡ deal_of table.old }
-    ensures nearer { trading_rank table.new.reply.scripts result < 3 + most_scripts }
-    ensures room { HasRoom table.new (scripts_left table.new.reply.scripts result) }
-    ensures asked { HasMessage table.new result }
+    requires room { HasRoomForResults table.old 8 }
+    ensures stands { TakesReply table.old table.new (transaction_of transaction.now) stage.Online result (HostSaid reply.now) }
+    ensures step { StepComes table.old table.new result (3 + most_scripts) }
 {
     match read_reply(reply) {
         Ok(said) => take_reply(table, transaction, said),
@@ -144,14 +133,9 @@ pub(crate) fn on_silence<'s>(
     table: &mut Table<'s>,
     transaction: &Transaction<'_, 's>,
 ) -> Trading<'s>
-    requires room { HasRoom table.old 8 }
-    ensures stands { (log : List Logged) (rest : List Reply → Standing Mark)
-        → TradingStands table.old (trade_of transaction.now) stage.Online log rest
-        → TradingStands table.new (trade_of transaction.now) result log (λ later. rest (HostSilent ∷ later)) }
-    ensures same { deal_of table.new ≡ deal_of table.old }
-    ensures nearer { trading_rank table.new.reply.scripts result < 3 + most_scripts }
-    ensures room { HasRoom table.new (scripts_left table.new.reply.scripts result) }
-    ensures asked { HasMessage table.new result }
+    requires room { HasRoomForResults table.old 8 }
+    ensures stands { TakesReply table.old table.new (transaction_of transaction.now) stage.Online result HostSilent }
+    ensures step { StepComes table.old table.new result (3 + most_scripts) }
 {
     be_unable(table, transaction, OnlineRequest::Sent)
 }
@@ -162,26 +146,21 @@ fn take_reply<'s>(
     transaction: &Transaction<'_, 's>,
     said: Said<'_>,
 ) -> Trading<'s>
-    requires room { HasRoom table.old 8 }
-    requires sound { IsSound said }
-    ensures stands { (marks : List Mark) (log : List Logged) (rest : List Reply → Standing Mark)
-        → Begins table.old transaction.now.card.now marks rest (authentication (trade_of transaction.now) (kept_reply said.entry) (HasReply said.entry ∷ marks) log)
-        → TradingStands table.new (trade_of transaction.now) result log rest }
-    ensures same { deal_of table.new ≡ deal_of table.old }
-    ensures few { trading_rank table.new.reply.scripts result ≤ 2 + most_scripts }
-    ensures room { HasRoom table.new (scripts_left table.new.reply.scripts result) }
-    ensures asked { HasMessage table.new result }
+    requires room { HasRoomForResults table.old 8 }
+    requires sound { IsReplyInRange said }
+    ensures stands { (steps_done : List StepResult) (log : List Logged) → BeginsAs table.old table.new (transaction_of transaction.now) result steps_done log (issuer_authentication (transaction_of transaction.now) (kept_reply said.entry) (HasReply said.entry ∷ steps_done) log) }
+    ensures step { StepComes table.old table.new result (3 + most_scripts) }
 {
-    table.moment.has_reply(&said);
+    table.state_so_far.has_reply(&said);
     keep(&mut table.reply, &said);
     authenticate(table, transaction, said.auth)
 }
 
 /// Keeps a reply for the steps behind it.
 fn keep(reply: &mut HostReply, said: &Said<'_>)
-    requires { IsSound said.now }
+    requires { IsReplyInRange said.now }
     ensures kept { reply.new ≡ kept_reply said.now }
-    ensures few { length (templates 0x71 reply.new.scripts) + length (templates 0x72 reply.new.scripts) ≤ 8 }
+    ensures few { length (templates_of_tag 0x71 reply.new.scripts) + length (templates_of_tag 0x72 reply.new.scripts) ≤ 8 }
     ensures short { length reply.new.scripts ≤ most_scripts }
 {
     reply.code = said.code;
@@ -208,22 +187,17 @@ fn are_few(scripts: &[u8]) -> bool
 }
 
 /// EXTERNAL AUTHENTICATE is asked where the reply has data for it and the card the function.
-#[tactic(auto, unfolding(crate::specs::Dialogue::authentication))]
+#[tactic(auto, unfolding(crate::specs::IssuerAuthentication::issuer_authentication))]
 fn authenticate<'s>(
     table: &mut Table<'s>,
     transaction: &Transaction<'_, 's>,
     auth: Option<&[u8]>,
 ) -> Trading<'s>
     requires auth { IfSome auth (λ value. IsIssuerData value.now) }
-    requires room { HasRoom table.old (length (templates 0x71 table.old.reply.scripts) + length (templates 0x72 table.old.reply.scripts)) }
-    ensures stands { (marks : List Mark) (log : List Logged) (rest : List Reply → Standing Mark)
-        → table.old.reply.auth ≡ option_map (λ value. value.now) auth.entry
-        → Begins table.old transaction.now.card.now marks rest (authentication (trade_of transaction.now) table.old.reply marks log)
-        → TradingStands table.new (trade_of transaction.now) result log rest }
-    ensures same { deal_of table.new ≡ deal_of table.old }
-    ensures few { trading_rank table.new.reply.scripts result ≤ 2 + (bytes_in (templates 0x71 table.old.reply.scripts) + bytes_in (templates 0x72 table.old.reply.scripts)) }
-    ensures room { HasRoom table.new (scripts_left table.new.reply.scripts result) }
-    ensures asked { HasMessage table.new result }
+    requires room { HasRoomForResults table.old (length (templates_of_tag 0x71 table.old.reply.scripts) + length (templates_of_tag 0x72 table.old.reply.scripts)) }
+    ensures stands { (steps_done : List StepResult) (log : List Logged) → table.old.reply.auth ≡ option_map (λ value. value.now) auth.entry
+        → BeginsAs table.old table.new (transaction_of transaction.now) result steps_done log (issuer_authentication (transaction_of transaction.now) table.old.reply steps_done log) }
+    ensures step { StepComes table.old table.new result (3 + (bytes_in_templates (templates_of_tag 0x71 table.old.reply.scripts) + bytes_in_templates (templates_of_tag 0x72 table.old.reply.scripts))) }
 {
     match auth {
         Some(value) => {
@@ -251,18 +225,13 @@ pub(crate) fn on_authenticate<'s>(
     transaction: &Transaction<'_, 's>,
     reply: &[u8],
 ) -> Trading<'s>
-    requires room { HasRoom table.old (length (templates 0x71 table.old.reply.scripts) + length (templates 0x72 table.old.reply.scripts)) }
-    ensures stands { (before now : List Logged) (rest : List Reply → Standing Mark)
-        → TradingStands table.old (trade_of transaction.now) stage.Authenticate before rest
-        → TradingStands table.new (trade_of transaction.now) result now (λ later. rest (CardSaid reply.now now ∷ later)) }
-    ensures same { deal_of table.new ≡ deal_of table.old }
-    ensures nearer { trading_rank table.new.reply.scripts result < 2 + (bytes_in (templates 0x71 table.old.reply.scripts) + bytes_in (templates 0x72 table.old.reply.scripts)) }
-    ensures room { HasRoom table.new (scripts_left table.new.reply.scripts result) }
-    ensures asked { HasMessage table.new result }
+    requires room { HasRoomForResults table.old (length (templates_of_tag 0x71 table.old.reply.scripts) + length (templates_of_tag 0x72 table.old.reply.scripts)) }
+    ensures stands { TakesAnswer table.old table.new (transaction_of transaction.now) stage.Authenticate result reply.now }
+    ensures step { StepComes table.old table.new result (2 + (bytes_in_templates (templates_of_tag 0x71 table.old.reply.scripts) + bytes_in_templates (templates_of_tag 0x72 table.old.reply.scripts))) }
 {
     match read_verdict(reply) {
         Ok(good) => {
-            table.moment.has_authenticated(good);
+            table.state_so_far.has_authenticated(good);
             run_before(table, transaction, 0)
         }
         Err(cause) => Trading::Over(Ending::Terminated(Step::Authenticate, cause)),
@@ -276,26 +245,21 @@ fn be_unable<'s>(
     transaction: &Transaction<'_, 's>,
     request: OnlineRequest,
 ) -> Trading<'s>
-    requires room { HasRoom table.old 8 }
-    ensures stands { (marks : List Mark) (log : List Logged) (rest : List Reply → Standing Mark)
-        → Begins table.old transaction.now.card.now marks rest (unable_online (trade_of transaction.now) request marks log)
-        → TradingStands table.new (trade_of transaction.now) result log rest }
-    ensures same { deal_of table.new ≡ deal_of table.old }
-    ensures few { trading_rank table.new.reply.scripts result ≤ 1 }
-    ensures room { HasRoom table.new (scripts_left table.new.reply.scripts result) }
-    ensures asked { HasMessage table.new result }
+    requires room { HasRoomForResults table.old 0 }
+    ensures stands { (steps_done : List StepResult) (log : List Logged) → BeginsAs table.old table.new (transaction_of transaction.now) result steps_done log (unable_online (transaction_of transaction.now) request steps_done log) }
+    ensures step { StepComes table.old table.new result 2 }
 {
-    let asked = kind_unable(&table.moment, transaction);
-    table.moment.was_unable(request, asked);
+    let asked = kind_unable(&table.state_so_far, transaction);
+    table.state_so_far.was_unable(request, asked);
     let outcome = OnlineOutcome::Unable;
     begin_second(table, transaction, AtSecond { asked, outcome })
 }
 
 /// The kind of cryptogram that is asked for where the terminal was unable to go online.
-fn kind_unable(moment: &Moment, transaction: &Transaction<'_, '_>) -> Kind
-    ensures { result ≡ spec.unable moment.now.tvr (spec.codes_of transaction.now.card.now transaction.now.row.now) transaction.now.settings.now.kind }
+fn kind_unable(state_so_far: &StateSoFar, transaction: &Transaction<'_, '_>) -> Kind
+    ensures { result ≡ spec.unable state_so_far.now.tvr (spec.codes_of transaction.now.card.now transaction.now.row.now) transaction.now.settings.now.kind }
 {
     let codes = codes_of(transaction.card, transaction.row);
     let settings = transaction.settings;
-    unable(moment.tvr, &codes, settings.kind)
+    unable(state_so_far.tvr, &codes, settings.kind)
 }

@@ -1,15 +1,13 @@
 //! Completion: the second GENERATE AC and what its cryptogram decides (EMV 4.3 Book 3 section 10.11).
-ghost use Rattle.std.specs.Prelude.{◌≡◌, ◌∷◌, ◌≤◌, ◌<◌, ◌+◌, List, length};
+ghost use Rattle.std.specs.Prelude.{◌≡◌, ◌∷◌, ◌+◌, List, length};
 ghost use Rattle.emv_dict.specs.declared.purchase.Logged.{Logged};
-ghost use Rattle.kernel.specs.Course.{Standing};
-ghost use Rattle.kernel.specs.Dialogue.{second, Trade, scripts_behind, decision};
-ghost use Rattle.kernel.specs.Rank.{trading_rank, bytes_in};
-ghost use Rattle.kernel.specs.Reply.{Reply, CardSaid};
-ghost use Rattle.kernel.specs.Stages.{TradingStands, Begins, HasRoom, scripts_left, behind_if, HasMessage};
-ghost use Rattle.kernel.specs.Trades.{trade_of};
+ghost use Rattle.kernel.specs.Dialogue.{second, TransactionData, scripts_behind, decision};
+ghost use Rattle.kernel.specs.Rank.{bytes_in_templates};
+ghost use Rattle.kernel.specs.Stages.{HasRoomForResults, behind_if};
+ghost use Rattle.kernel.specs.Steps.{BeginsAs, StepComes, TakesAnswer};
+ghost use Rattle.kernel.specs.Transactions.{transaction_of};
 ghost use Rattle.kernel.specs.declared.stage.Trading.TheVariants as stage;
-ghost use Rattle.terminal_state.specs.Marks.{Mark, HasSecond};
-ghost use Rattle.terminal_state.specs.Table.{deal_of};
+ghost use Rattle.terminal_state.specs.StepResults.{StepResult, HasSecond};
 
 use crate::generate::ask_generate;
 use crate::issuer_scripts::run_behind;
@@ -24,20 +22,15 @@ use terminal_state::Table;
 const SECOND_LIST: Tag = Tag(0x8d);
 
 /// The second GENERATE AC is asked.
-#[tactic(auto, unfolding(crate::specs::Dialogue::second))]
+#[tactic(auto, unfolding(crate::specs::Completion::second))]
 pub(crate) fn begin_second<'s>(
     table: &mut Table<'s>,
     transaction: &Transaction<'_, 's>,
     state: AtSecond,
 ) -> Trading<'s>
-    requires room { HasRoom table.old (length (behind_if state.outcome table.old.reply.scripts)) }
-    ensures stands { (marks : List Mark) (log : List Logged) (rest : List Reply → Standing Mark)
-        → Begins table.old transaction.now.card.now marks rest (second (trade_of transaction.now) state.outcome state.asked (behind_if state.outcome table.old.reply.scripts) marks log)
-        → TradingStands table.new (trade_of transaction.now) result log rest }
-    ensures same { deal_of table.new ≡ deal_of table.old }
-    ensures few { trading_rank table.new.reply.scripts result ≤ 1 + bytes_in (behind_if state.outcome table.old.reply.scripts) }
-    ensures room { HasRoom table.new (scripts_left table.new.reply.scripts result) }
-    ensures asked { HasMessage table.new result }
+    requires room { HasRoomForResults table.old (length (behind_if state.outcome table.old.reply.scripts)) }
+    ensures stands { (steps_done : List StepResult) (log : List Logged) → BeginsAs table.old table.new (transaction_of transaction.now) result steps_done log (second (transaction_of transaction.now) state.outcome state.asked (behind_if state.outcome table.old.reply.scripts) steps_done log) }
+    ensures step { StepComes table.old table.new result (2 + bytes_in_templates (behind_if state.outcome table.old.reply.scripts)) }
 {
     if ask_generate(table, transaction, SECOND_LIST, state.asked) {
         Trading::Second(state)
@@ -48,14 +41,9 @@ pub(crate) fn begin_second<'s>(
 
 /// The card's answer to the second GENERATE AC.
 pub(crate) fn on_second<'s>(table: &mut Table<'s>, state: AtSecond, reply: &[u8]) -> Trading<'s>
-    requires room { HasRoom table.old (length (behind_if state.outcome table.old.reply.scripts)) }
-    ensures stands { (trade : Trade) (before now : List Logged) (rest : List Reply → Standing Mark)
-        → TradingStands table.old trade (stage.Second state) before rest
-        → TradingStands table.new trade result now (λ later. rest (CardSaid reply.now now ∷ later)) }
-    ensures same { deal_of table.new ≡ deal_of table.old }
-    ensures nearer { trading_rank table.new.reply.scripts result < 1 + bytes_in (behind_if state.outcome table.old.reply.scripts) }
-    ensures room { HasRoom table.new (scripts_left table.new.reply.scripts result) }
-    ensures asked { HasMessage table.new result }
+    requires room { HasRoomForResults table.old (length (behind_if state.outcome table.old.reply.scripts)) }
+    ensures stands { (transaction : TransactionData) → TakesAnswer table.old table.new transaction (stage.Second state) result reply.now }
+    ensures step { StepComes table.old table.new result (1 + bytes_in_templates (behind_if state.outcome table.old.reply.scripts)) }
 {
     match read_ac(reply, state.asked, GenerateAc::Second) {
         Ok(ac) => finish(table, state.outcome, ac),
@@ -65,17 +53,12 @@ pub(crate) fn on_second<'s>(table: &mut Table<'s>, state: AtSecond, reply: &[u8]
 
 /// The second cryptogram settles the ending, and scripts may run behind it.
 fn finish<'s>(table: &mut Table<'s>, outcome: OnlineOutcome, ac: Ac) -> Trading<'s>
-    requires room { HasRoom table.old (length (behind_if outcome table.old.reply.scripts)) }
-    ensures stands { (trade : Trade) (marks : List Mark) (log : List Logged) (rest : List Reply → Standing Mark)
-        → Begins table.old trade.card marks rest (scripts_behind (decision outcome ac.kind) (behind_if outcome table.old.reply.scripts) (HasSecond ac ∷ marks) log)
-        → TradingStands table.new trade result log rest }
-    ensures same { deal_of table.new ≡ deal_of table.old }
-    ensures few { trading_rank table.new.reply.scripts result ≤ bytes_in (behind_if outcome table.old.reply.scripts) }
-    ensures room { HasRoom table.new (scripts_left table.new.reply.scripts result) }
-    ensures asked { HasMessage table.new result }
+    requires room { HasRoomForResults table.old (length (behind_if outcome table.old.reply.scripts)) }
+    ensures stands { (transaction : TransactionData) (steps_done : List StepResult) (log : List Logged) → BeginsAs table.old table.new transaction result steps_done log (scripts_behind (decision outcome ac.kind) (behind_if outcome table.old.reply.scripts) (HasSecond ac ∷ steps_done) log) }
+    ensures step { StepComes table.old table.new result (1 + bytes_in_templates (behind_if outcome table.old.reply.scripts)) }
 {
     let ending = ending_of(outcome, &ac);
-    table.moment.has_second(ac);
+    table.state_so_far.has_second(ac);
     match outcome {
         OnlineOutcome::Replied => run_behind(table, ending, 0),
         OnlineOutcome::Unable => Trading::Over(ending),

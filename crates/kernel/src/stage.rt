@@ -3,9 +3,8 @@ use app_select::{Choice, Search};
 use cvm_list::Verifying;
 use emv_dict::{AidRow, Ending, Kind, Step};
 use pse_directory::Listing;
-use read_records::{Course, Initiating};
+use read_records::{Initiating, RecordsToRead};
 use risk_mgmt::Judging;
-use script_run::Running;
 
 /// Before the card is read.
 #[derive(Drop)]
@@ -40,7 +39,7 @@ pub(crate) struct AtInitiate<'s> {
 
 #[derive(Drop)]
 pub(crate) struct AtRead<'s> {
-    pub course: Course,
+    pub course: RecordsToRead,
     pub row: &'s AidRow,
 }
 
@@ -63,9 +62,9 @@ pub(crate) enum Trading<'s> {
     Over(Ending),
 }
 
+/// A script runs: the one on the table.
 #[derive(Drop)]
 pub(crate) struct AtScript {
-    pub running: Running,
     /// The index of the template behind this one.
     pub next: usize,
 }

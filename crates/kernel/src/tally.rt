@@ -1,5 +1,5 @@
 //! How many dialogues ended in which way.
-ghost use Rattle.std.specs.Prelude.{◌≡◌, ◌∷◌, [], ℕ, List};
+ghost use Rattle.std.specs.Prelude.{◌≡◌, ◌∷◌, []};
 ghost use Rattle.kernel.specs.Tally.{raised};
 
 use emv_dict::Ending;

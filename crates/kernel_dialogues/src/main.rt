@@ -3,11 +3,11 @@
 //! same terminal, once where no number is given. A line that begins with `#` says what those below it are about.
 #![tactic(auto)]
 
-mod deal;
 mod names;
+mod outset;
 mod play;
 
-use play::{Room, play};
+use play::{DialogueBuffers, play};
 use std::{env, io};
 
 fn main(rt: HostRuntime) -> io::Result<()> {
@@ -15,7 +15,7 @@ fn main(rt: HostRuntime) -> io::Result<()> {
         Some(word) => word.parse::<u32>().unwrap_or(1),
         None => 1,
     };
-    let mut room = Room::new();
+    let mut room = DialogueBuffers::new();
     let mut played = 0u64;
     for line in rt.lines(rt.alloc()) {
         let line = line?;

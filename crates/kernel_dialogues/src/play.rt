@@ -3,8 +3,8 @@ ghost use Rattle.std.specs.Prelude.{◌≤◌};
 ghost use Rattle.std.specs.List.{All};
 ghost use Rattle.emv_dict.specs.Settings.{IsPurchase, IsSettings, most_amount};
 
-use crate::deal::{Deal, Difference, digits_of, other_log, put_bytes};
 use crate::names::text_of;
+use crate::outset::{Difference, Outset, digits_of, other_log, put_bytes};
 use arrayvec::ArrayVec;
 use auth_message::Message;
 use emv_dict::{Ac, Digits, Logged, Purchase, Settings};
@@ -14,16 +14,16 @@ use std::alloc::Global;
 
 /// Room that is made once for all dialogues.
 #[derive(Drop)]
-pub struct Room {
+pub struct DialogueBuffers {
     bytes: Message,
     captured: Message,
     text: Text,
 }
 
-impl Room {
+impl DialogueBuffers {
     /// Empty room.
-    pub fn new() -> Room {
-        Room {
+    pub fn new() -> DialogueBuffers {
+        DialogueBuffers {
             bytes: Message::new(),
             captured: Message::new(),
             text: Text::new(),
@@ -58,7 +58,7 @@ impl<'l> Logs<'l> {
 /// The line of a dialogue in its parts.
 #[derive(Clone, Copy)]
 struct Parts<'t> {
-    deal: Deal<'t>,
+    outset: Outset<'t>,
     exchanges: &'t str,
     end: &'t str,
     capture: &'t str,
@@ -69,16 +69,21 @@ struct Parts<'t> {
 /// prints it, and behind ` | ` what is captured. Bytes are hexadecimal digits or a name, and `-` stands for
 /// none. A host's exchange begins with `host`; a card can be `gone`, and a silent host says `none`.
 /// Behind it the dialogue is played `again` times more in the same terminal.
-pub fn play(alloc: Global, line: &str, again: u32, room: &mut Room) -> Result<(), Difference> {
+pub fn play(
+    alloc: Global,
+    line: &str,
+    again: u32,
+    room: &mut DialogueBuffers,
+) -> Result<(), Difference> {
     let parts = parts_of(line)?;
-    let settings = parts.deal.settings(alloc)?;
-    let purchase = parts.deal.purchase(alloc)?;
-    let own = parts.deal.log(alloc)?;
+    let settings = parts.outset.settings(alloc)?;
+    let purchase = parts.outset.purchase(alloc)?;
+    let own = parts.outset.log(alloc)?;
     let other = other_log(alloc)?;
     let logs = Logs {
         own: own.as_slice(),
         other: other.as_slice(),
-        call: parts.deal.call(),
+        call: parts.outset.call(),
     };
     go_through(&settings, &purchase, &logs, &parts, again, room)
 }
@@ -90,7 +95,7 @@ fn go_through(
     logs: &Logs<'_>,
     parts: &Parts<'_>,
     again: u32,
-    room: &mut Room,
+    room: &mut DialogueBuffers,
 ) -> Result<(), Difference>
     requires settings { IsSettings settings.now }
     requires purchase { IsPurchase purchase.now }
@@ -109,7 +114,7 @@ fn play_out(
     kernel: &mut Kernel<'_>,
     logs: &Logs<'_>,
     parts: &Parts<'_>,
-    room: &mut Room,
+    room: &mut DialogueBuffers,
 ) -> Result<(), Difference> {
     let replies = exchange_all(kernel, parts.exchanges, logs, &mut room.bytes)?;
     match kernel.next() {
@@ -127,7 +132,7 @@ fn play_out(
 }
 
 fn parts_of(line: &str) -> Result<Parts<'_>, Difference> {
-    let Some((deal, rest)) = line.split_once(": ") else {
+    let Some((outset, rest)) = line.split_once(": ") else {
         return Err(Difference::Line);
     };
     let Some((exchanges, rest)) = rest.split_once(" = ") else {
@@ -135,7 +140,7 @@ fn parts_of(line: &str) -> Result<Parts<'_>, Difference> {
     };
     let (end, capture) = rest.split_once(" | ").unwrap_or((rest, ""));
     Ok(Parts {
-        deal: Deal::read(deal),
+        outset: Outset::read(outset),
         exchanges,
         end,
         capture,
@@ -187,7 +192,11 @@ fn is_taken(kernel: &mut Kernel<'_>, exchange: &str, log: &[Logged], bytes: &mut
 }
 
 /// Compares the end record.
-fn compare(ended: EndRecord, parts: &Parts<'_>, room: &mut Room) -> Result<(), Difference> {
+fn compare(
+    ended: EndRecord,
+    parts: &Parts<'_>,
+    room: &mut DialogueBuffers,
+) -> Result<(), Difference> {
     let EndRecord {
         ending,
         tvr,
@@ -223,7 +232,7 @@ fn compare(ended: EndRecord, parts: &Parts<'_>, room: &mut Room) -> Result<(), D
 
 /// Whether the card's account number is there, exactly where reading is finished.
 fn is_account(pan: &Option<Digits>, parts: &Parts<'_>) -> bool {
-    match (pan, digits_of(parts.deal.pan)) {
+    match (pan, digits_of(parts.outset.pan)) {
         (Some(pan), Ok(digits)) => has_read(parts.end) && pan.as_slice() == digits.as_slice(),
         (None, Ok(_)) => !has_read(parts.end),
         (_, Err(_)) => false,
@@ -247,7 +256,7 @@ fn counter_and_cryptogram(last: &Option<Ac>) -> Option<(u16, [u8; 8])> {
 }
 
 /// Whether this is what is captured, nothing where there is none.
-fn is_captured(capture: Option<Capture>, text: &str, room: &mut Room) -> bool {
+fn is_captured(capture: Option<Capture>, text: &str, room: &mut DialogueBuffers) -> bool {
     room.captured.clear();
     if let Some(capture) = capture {
         capture.into_message(&mut room.captured);

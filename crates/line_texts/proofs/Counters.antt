@@ -7,7 +7,7 @@ use Rattle.std.proofs.lemmas.Fmt.{decimal_is_IsNumeral}
 use Rattle.std.proofs.lemmas.Str.Parse.{digit_at}
 use Rattle.report_text.specs.Text.{second_text, shown_text, all_shown}
 use Rattle.report_text.specs.declared.line.Shown.{Shown}
-use Rattle.line_texts.specs.Told.{IsCount, AreCounters}
+use Rattle.line_texts.specs.LineTexts.{IsCount, AreCounters}
 use Rattle.line_texts.proofs.Fronts.{behind, number, first_same}
 
 shown_of : ℕ → ℕ → ℕ → ℕ → ℕ → ℕ → Option ℕ → Shown

@@ -8,7 +8,7 @@ use Rattle.emv_dict.specs.declared.ending.Cause.TheVariants as cause
 use Rattle.emv_dict.specs.declared.ending.Ending.{Ending}
 use Rattle.emv_dict.specs.declared.ending.Ending.TheVariants as ending
 use Rattle.report_text.specs.Words.{step_word, cause_text, side_word, ending_text}
-use Rattle.line_texts.specs.Told.{IsCauseTold, IsEndingTold}
+use Rattle.line_texts.specs.LineTexts.{IsCauseTold, IsEndingTold}
 use Rattle.line_texts.proofs.Fronts.{behind, number, hex, tag, two, apart, one_byte, first_same}
 
 abbrev tag_of : ℕ → Tag

@@ -15,7 +15,7 @@ use Rattle.hex.proofs.HexLemmas.{decode_of-encode_lower, IsDigits-lower_digits}
 use Rattle.report_text.specs.Pieces.{hex_or_dash, digits_text, two_bytes}
 use Rattle.ber_tlv.specs.Written.{tag_bytes}
 use Rattle.emv_dict.specs.Flags.{tvr_bytes}
-use Rattle.line_texts.specs.Told.{IsCount, AreBytes, IsTag}
+use Rattle.line_texts.specs.LineTexts.{IsCount, AreBytes, IsTag}
 
 abbrev pub AtLeast : ℕ → List ℕ → Type 0
 AtLeast bound word = All (λ c. bound ≤ c) word

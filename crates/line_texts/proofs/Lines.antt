@@ -13,7 +13,7 @@ use Rattle.report_text.specs.declared.line.Line.TheVariants.{Power, PowerCanned,
 use Rattle.report_text.specs.declared.line.Shown.{Shown}
 use Rattle.std.specs.List.{All, flat_map}
 use Rattle.std.proofs.lemmas.List.Elements.{All-head, All-tail}
-use Rattle.line_texts.specs.Told.{IsCount, IsName, AreBytes, AreCounters, IsTold, LinesDiffer, ReportsDiffer}
+use Rattle.line_texts.specs.LineTexts.{IsCount, IsCardName, AreBytes, AreCounters, IsTellable, LinesDiffer, ReportsDiffer}
 use Rattle.line_texts.proofs.Fronts.{AtLeast, high_head, first_same, behind, word, number, wide_number, wide_high, dash, digits, tag}
 use Rattle.line_texts.proofs.Counters.{begun, counters_same}
 use Rattle.line_texts.proofs.Endings.{ending_front}
@@ -46,13 +46,13 @@ lane x m n {r} {s} e h k =
     (same.0, behind 1 same.1)
 
 -- a card's name
-name : (c d : ArrayVec ℕ) {r s : List ℕ} → c.items ++ 32 ∷ r ≡ d.items ++ 32 ∷ s → IsName c.items → IsName d.items → (c ≡ d) × (r ≡ s)
+name : (c d : ArrayVec ℕ) {r s : List ℕ} → c.items ++ 32 ∷ r ≡ d.items ++ 32 ∷ s → IsCardName c.items → IsCardName d.items → (c ≡ d) × (r ≡ s)
 name c d {r} {s} e h k =
     let same = word 33 c.items d.items 32 32 r s e (name_high c.items h) (name_high d.items k) (omega arith) (omega arith) in
     (same_items c d same.0, behind 1 same.1)
 
 -- and the counters of its applications
-name_apps : (c d : ArrayVec ℕ) (x y : ArrayVec Shown) {r s : List ℕ} → c.items ++ (all_shown x.items ++ 10 ∷ r) ≡ d.items ++ (all_shown y.items ++ 10 ∷ s) → IsName c.items → IsName d.items → All AreCounters x.items → All AreCounters y.items → (c ≡ d) × (x ≡ y) × (r ≡ s)
+name_apps : (c d : ArrayVec ℕ) (x y : ArrayVec Shown) {r s : List ℕ} → c.items ++ (all_shown x.items ++ 10 ∷ r) ≡ d.items ++ (all_shown y.items ++ 10 ∷ s) → IsCardName c.items → IsCardName d.items → All AreCounters x.items → All AreCounters y.items → (c ≡ d) × (x ≡ y) × (r ≡ s)
 name_apps c d x y {r} {s} e h k p q =
     let one = begun x.items r p in
     let two = begun y.items s q in
@@ -94,8 +94,8 @@ amount (negsuc m) (negsuc n) r s e h k =
 not_false : false ≡ true → ⊥
 not_false e = cc
 
-line_front : (a b : Line) (r s : List ℕ) → flat_text a r ≡ flat_text b s → IsTold a → IsTold b → IsTrue (kind a == kind b) → (a ≡ b) × (r ≡ s)
-unfolding IsTold
+line_front : (a b : Line) (r s : List ℕ) → flat_text a r ≡ flat_text b s → IsTellable a → IsTellable b → IsTrue (kind a == kind b) → (a ≡ b) × (r ≡ s)
+unfolding IsTellable
 line_front (Power m c x) (Power n d y) r s e ta tb same =
     let one = lane 76 m n e ta.0 tb.0 in
     let two = name_apps c d x y (behind 6 one.1) ta.1 tb.1 ta.2 tb.2 in
@@ -179,7 +179,7 @@ line_front (ReadEnded x) (ReadEnded y) r s e ta tb same =
     (ap ReadEnded one.0, behind 1 one.1)
 line_front a b r s e ta tb same = absurd (not_false same)
 
-front : (a b : Line) (r s : List ℕ) → IsTold a → IsTold b → line_text a ++ r ≡ line_text b ++ s → (a ≡ b) × (r ≡ s)
+front : (a b : Line) (r s : List ℕ) → IsTellable a → IsTellable b → line_text a ++ r ≡ line_text b ++ s → (a ≡ b) × (r ≡ s)
 front a b r s ta tb e =
     let flat : flat_text a r ≡ flat_text b s = sym (flat_of a r) ∙ e ∙ flat_of b s in
     line_front a b r s flat ta tb (same_kind a b r s flat ta tb)
@@ -188,8 +188,8 @@ pub lines_differ : LinesDiffer
 lines_differ a b ta tb e = (front a b [] [] ta tb (ap (λ (t : List ℕ). t ++ []) e)).0
 
 -- no line has an empty text: what follows it would be what follows another
-some : (a : Line) (r : List ℕ) → IsTold a → line_text a ++ r ≡ [] → ⊥
-unfolding line_text IsTold
+some : (a : Line) (r : List ℕ) → IsTellable a → line_text a ++ r ≡ [] → ⊥
+unfolding line_text IsTellable
 some a r told e =
     let joined : line_text a ++ (r ++ line_text ReadOk) ≡ line_text ReadOk ++ [] = sym (append_assoc (line_text a) r (line_text ReadOk)) ∙ ap (λ (t : List ℕ). t ++ line_text ReadOk) e in
     let same = front a ReadOk (r ++ line_text ReadOk) [] told tt joined in
@@ -198,10 +198,10 @@ some a r told e =
 
 pub reports_differ : ReportsDiffer
 reports_differ [] [] tx ty e = refl
-reports_differ [] (y ∷ ys) tx ty e = absurd (some y (flat_map line_text ys) (All-head IsTold y ys ty) (sym e))
-reports_differ (x ∷ xs) [] tx ty e = absurd (some x (flat_map line_text xs) (All-head IsTold x xs tx) e)
+reports_differ [] (y ∷ ys) tx ty e = absurd (some y (flat_map line_text ys) (All-head IsTellable y ys ty) (sym e))
+reports_differ (x ∷ xs) [] tx ty e = absurd (some x (flat_map line_text xs) (All-head IsTellable x xs tx) e)
 reports_differ (x ∷ xs) (y ∷ ys) tx ty e =
-    let same = front x y (flat_map line_text xs) (flat_map line_text ys) (All-head IsTold x xs tx) (All-head IsTold y ys ty) e in
+    let same = front x y (flat_map line_text xs) (flat_map line_text ys) (All-head IsTellable x xs tx) (All-head IsTellable y ys ty) e in
     let here : x ≡ y = same.0 in
-    let there : xs ≡ ys = reports_differ xs ys (All-tail IsTold x xs tx) (All-tail IsTold y ys ty) same.1 in
+    let there : xs ≡ ys = reports_differ xs ys (All-tail IsTellable x xs tx) (All-tail IsTellable y ys ty) same.1 in
     cc

@@ -13,7 +13,7 @@ use Rattle.report_text.specs.Words.{ending_text}
 use Rattle.report_text.specs.declared.line.EndParts.{EndParts}
 use Rattle.report_text.specs.declared.line.Line.{Line}
 use Rattle.report_text.specs.declared.line.Line.TheVariants.{Power, PowerCanned, PowerTorn, ToCard, FromCard, Torn, Gone, ToHost, FromHost, NoReply, End, EndLost, SettleCall, SettleReply, AuditPower, AuditAsk, AuditAnswer, Balance, Done, Object, ReadOk, ReadEnded}
-use Rattle.line_texts.specs.Told.{IsCount, IsName, IsTold}
+use Rattle.line_texts.specs.LineTexts.{IsCount, IsCardName, IsTellable}
 use Rattle.line_texts.proofs.Fronts.{AtLeast, high_head, high_tail, decimal_high, dash_first}
 use Rattle.line_texts.proofs.Counters.{begun}
 use Rattle.line_texts.proofs.Flat.{flat_text}
@@ -33,7 +33,7 @@ rest_word bound (x ∷ word) c rest all low =
     let no : nat_lt x bound ≡ false = grind (arith, nat_tests) in
     rw no (rest_word bound word c rest (high_tail bound x word all) low)
 
-pub name_high : (name : List ℕ) → IsName name → AtLeast 33 name
+pub name_high : (name : List ℕ) → IsCardName name → AtLeast 33 name
 name_high name all = All-weaker (λ (c : ℕ). 32 < c) (λ (c : ℕ). 33 ≤ c) (λ c h. omega arith) name all
 
 -- the kinds, numbered
@@ -116,11 +116,11 @@ settle_line : (lane : ℕ) (rest : List ℕ) → IsCount lane → line_mark (83 
 unfolding line_mark
 settle_line lane rest h = ap settle_mark (rest_word 48 (decimal lane) 32 rest (decimal_high lane h) (omega arith))
 
-audit_line : (card rest : List ℕ) → IsName card → line_mark (65 ∷ 32 ∷ (card ++ 32 ∷ rest)) ≡ audit_mark (32 ∷ rest)
+audit_line : (card rest : List ℕ) → IsCardName card → line_mark (65 ∷ 32 ∷ (card ++ 32 ∷ rest)) ≡ audit_mark (32 ∷ rest)
 unfolding line_mark
 audit_line card rest h = ap audit_mark (rest_word 33 card 32 rest (name_high card h) (omega arith))
 
-power_line : (lane : ℕ) (card : List ℕ) (c : ℕ) (rest : List ℕ) → IsCount lane → IsName card → c < 33
+power_line : (lane : ℕ) (card : List ℕ) (c : ℕ) (rest : List ℕ) → IsCount lane → IsCardName card → c < 33
     → line_mark (76 ∷ (decimal lane ++ (codes " power " ++ (card ++ c ∷ rest)))) ≡ power_mark (c ∷ rest)
 unfolding lane_mark
 power_line lane card c rest h name low = lane_line lane _ h ∙ ap power_mark (rest_word 33 card c rest (name_high card name) low)
@@ -172,8 +172,8 @@ parts_begin parts r =
     ++ (codes " cvm=" ++ (encode_lower parts.cvm ++ (codes " arc=" ++ (arc_text parts.arc ++ (cryptogram_text parts.atc_ac ++ (codes " scripts=" ++ (scripts_text parts.scripts.items ++ 10 ∷ r)))))))))) in
     (rest, simp append_assoc)
 
-marked : (line : Line) (r : List ℕ) → IsTold line → line_mark (flat_text line r) ≡ kind line
-unfolding IsTold line_mark lane_mark settle_mark audit_mark answer_mark reply_mark read_mark power_mark end_mark
+marked : (line : Line) (r : List ℕ) → IsTellable line → line_mark (flat_text line r) ≡ kind line
+unfolding IsTellable line_mark lane_mark settle_mark audit_mark answer_mark reply_mark read_mark power_mark end_mark
 marked (Power lane card apps) r t =
     let start = begun apps.items r t.2 in
     let whole : line_mark (76 ∷ (decimal lane ++ (codes " power " ++ (card.items ++ start.first ∷ start.rest)))) ≡ power_mark (start.first ∷ start.rest) =
@@ -204,7 +204,7 @@ marked (Object tag value) r t = refl
 marked ReadOk r t = refl
 marked (ReadEnded ending) r t = ending_mark ending (10 ∷ r)
 
-pub same_kind : (a b : Line) (r s : List ℕ) → flat_text a r ≡ flat_text b s → IsTold a → IsTold b → IsTrue (kind a == kind b)
+pub same_kind : (a b : Line) (r s : List ℕ) → flat_text a r ≡ flat_text b s → IsTellable a → IsTellable b → IsTrue (kind a == kind b)
 same_kind a b r s e ta tb =
     let same : kind a ≡ kind b = sym (marked a r ta) ∙ ap line_mark e ∙ marked b s tb in
     grind (arith, nat_tests)

@@ -10,7 +10,7 @@ use Rattle.report_text.specs.Pieces.{two_bytes}
 use Rattle.report_text.specs.Words.{ending_text}
 use Rattle.report_text.specs.Text.{arc_text, cryptogram_text, scripts_text, parts_text}
 use Rattle.report_text.specs.declared.line.EndParts.{EndParts}
-use Rattle.line_texts.specs.Told.{AreBytes, IsCodeTold, IsLastTold, IsResult, ArePartsTold}
+use Rattle.line_texts.specs.LineTexts.{AreBytes, IsCodeTold, IsLastTold, IsResult, ArePartsTold}
 use Rattle.line_texts.proofs.Fronts.{behind, hex, two, five, dash, no_dash, no_bytes, two_are_bytes}
 use Rattle.line_texts.proofs.Endings.{ending_front}
 

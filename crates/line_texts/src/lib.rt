@@ -1,7 +1,7 @@
 //! Reports tell what happened: laws over the texts of all lines that runs make, each by itself and in a row.
 #![tactic(auto)]
 
-ghost use Rattle.line_texts.specs.Told.{LinesDiffer, ReportsDiffer};
+ghost use Rattle.line_texts.specs.LineTexts.{LinesDiffer, ReportsDiffer};
 
 /// Two different lines that runs of accepted scenarios make have different texts. What such lines keep to
 /// is the premise, and no more than the law needs: numbers fit 64 bits (an amount 128), bytes are bytes, a

@@ -3,13 +3,13 @@ use Rattle.std.proofs.Common.{◌≡◌, ℕ, zero, suc, Bool, true, false, List
 use Rattle.std.specs.Borrow.{Bor}
 use Rattle.std.specs.List.{flat_map}
 use Rattle.ber_tlv.specs.Written.{tag_bytes}
-use Rattle.explain_words.specs.declared.names.Form.{Form}
-use Rattle.explain_words.specs.declared.names.Form.TheVariants as form
-use Rattle.list_words.specs.Plain.{hex_words}
+use Rattle.value_words.specs.declared.names.Form.{Form}
+use Rattle.value_words.specs.declared.names.Form.TheVariants as form
+use Rattle.value_words.specs.Plain.{hex_words}
 use Rattle.object_words.specs.Issuer.{response_code_words}
 use Rattle.object_words.specs.Leading.{leading_items}
 use Rattle.object_words.specs.Objects.{form_words, value_words, named_value, name_of, object_words, objects_words, item_words, plain_item, is_opened, template_line, level_within}
-use Rattle.word_lines.specs.Pieces.{Piece, line, text, hex}
+use Rattle.report_lines.specs.Pieces.{Piece, line, text, hex}
 use Rattle.message_words.specs.Objects.{styled}
 
 -- what the words are

@@ -2,9 +2,9 @@
 use Rattle.std.proofs.Common.{◌≡◌, ℕ, ◌==◌, Bool, true, false, List, ◌++◌, cond, codes, drop, nat_le, length, take, Option, Some, None, is_some, option_map, refl, ap}
 use Rattle.std.specs.Borrow.{Bor}
 use Rattle.ber_tlv.specs.Left.{fault_of, items_of}
-use Rattle.explain_words.specs.declared.names.Form.TheVariants.{Response}
-use Rattle.word_lines.specs.Pieces.{Piece, line, text, number}
-use Rattle.message_words.specs.Fields.{contents, named_from}
+use Rattle.value_words.specs.declared.names.Form.TheVariants.{Response}
+use Rattle.report_lines.specs.Pieces.{Piece, line, text, number}
+use Rattle.message_words.specs.Fields.{field_contents, named_from}
 use Rattle.message_words.specs.Iso.{MessageData, characters_words, field_word, content_words, message_words, behind_blank, type_word}
 use Rattle.message_words.specs.Messages.{objects_reply}
 use Rattle.message_words.specs.Objects.{styled, borrowed}
@@ -42,7 +42,7 @@ pub message-alike : (level : ℕ) (a b : Option (Bor (List ℕ))) (message : Mes
     → message_words (styled level a) None message brief ≡ message_words (styled level b) None message brief
 message-alike level a b message brief same =
     let numbers = named_from (take 8 message.rest) 1 in
-    let fields = each-alike (content_words (styled level a) None) (content_words (styled level b) None) (content-alike level a b same) (contents numbers (drop 8 message.rest)) in
+    let fields = each-alike (content_words (styled level a) None) (content_words (styled level b) None) (content-alike level a b same) (field_contents numbers (drop 8 message.rest)) in
     ap (λ (words : List Piece). line 1 ++ text message.digits ++ behind_blank (type_word message.kind) ++ words)
     (else-alike brief _ _ _ (if-alike (nat_le 8 (length message.rest)) _ _ _ fields))
 

@@ -1,15 +1,15 @@
 -- Messages in the style of ISO 8583:1987 in words.
 use Rattle.std.specs.Prelude.{ℕ, ◌==◌, Bool, ◌&&◌, nat_le, if◌then◌else◌, List, [], ◌∷◌, ◌++◌, length, map, take, drop, slice_index, codes, Option, Some, None, option_map, is_some}
 use Rattle.std.specs.List.{flat_map}
-use Rattle.explain_words.specs.Words.{word_in}
-use Rattle.explain_words.specs.declared.codes.TheConstants.{FIELDS, MESSAGE_TYPES}
-use Rattle.explain_words.specs.declared.names.Form.TheVariants.{Response}
-use Rattle.list_words.specs.Plain.{hex_words}
+use Rattle.value_words.specs.Words.{word_in}
+use Rattle.value_words.specs.declared.codes.TheConstants.{FIELDS, MESSAGE_TYPES}
+use Rattle.value_words.specs.declared.names.Form.TheVariants.{Response}
+use Rattle.value_words.specs.Plain.{hex_words}
 use Rattle.object_words.specs.Objects.{objects_words, value_words}
 use Rattle.object_words.specs.declared.style.Style.{Style}
-use Rattle.word_lines.specs.Pieces.{Piece, line, text, number}
-use Rattle.message_words.specs.Fields.{four_digits, cut_field, named_from, contents, begins_with_code}
-use Rattle.message_words.specs.Objects.{beside_words}
+use Rattle.report_lines.specs.Pieces.{Piece, line, text, number}
+use Rattle.message_words.specs.Fields.{four_digits, cut_field, named_from, field_contents, begins_with_code}
+use Rattle.message_words.specs.Objects.{new_objects_words}
 use Rattle.message_words.specs.declared.iso.Message.{Message}
 
 -- the word of a message's type, and of a field
@@ -37,15 +37,15 @@ abbrev pub known_type : List ℕ → Option ℕ
 known_type digits = if_known (four_digits digits)
 
 -- the message that these bytes are; none where they begin with no type that is known
-unfoldable pub message_of : List ℕ → Option MessageData
-message_of bytes =
+unfoldable pub iso_message_of : List ℕ → Option MessageData
+iso_message_of bytes =
     if nat_le 4 (length bytes)
     then option_map (λ kind. record { digits = take 4 bytes; kind = kind; rest = drop 4 bytes }) (known_type (take 4 bytes)) else None
 
 -- the objects of field 55: of a request beside those that were sent before, else with what they hold
 abbrev pub items_words : Style → Option (List (ℕ × List ℕ)) → List ℕ → List Piece
 items_words style None bytes = objects_words 8 style bytes
-items_words style (Some known) bytes = beside_words (Some known) bytes
+items_words style (Some known) bytes = new_objects_words (Some known) bytes
 
 -- the content of another field: the enciphered PIN in hexadecimal, the response code with its words, or the characters
 abbrev pub characters_words : Style → ℕ → List ℕ → List Piece
@@ -59,12 +59,12 @@ behind_blank None = []
 behind_blank (Some word) = text (codes " ") ++ text word
 
 -- a field in a line of its own: its number, its name, and its content
-abbrev pub field_words : Style → ℕ → List ℕ → List Piece
-field_words style n bytes =
+abbrev pub iso_field_words : Style → ℕ → List ℕ → List Piece
+iso_field_words style n bytes =
     line style.level ++ text (codes "field ") ++ number n ++ behind_blank (field_word n) ++ text (codes ": ") ++ characters_words style n bytes
 
 abbrev pub content_words : Style → Option (List (ℕ × List ℕ)) → ℕ × List ℕ → List Piece
-content_words style known field = (if field.0 == 55 then items_words style known field.1 else field_words style field.0 field.1)
+content_words style known field = (if field.0 == 55 then items_words style known field.1 else iso_field_words style field.0 field.1)
 
 -- the first field of bytes, where it can be taken apart
 abbrev pub first_words : Style → Option (List (ℕ × List ℕ)) → ℕ → Option (List ℕ × List ℕ) → List Piece
@@ -79,12 +79,12 @@ abbrev pub rest_if_named : Bool → ℕ → List ℕ → Option (List ℕ)
 rest_if_named named number bytes = (if named then option_map (λ parts. parts.1) (cut_field number bytes) else Some bytes)
 
 -- each field that the bitmap names, up to the first one that can't be taken apart
-abbrev pub fields_words : Style → Option (List (ℕ × List ℕ)) → List ℕ → List ℕ → List Piece
-fields_words style known bitmap bytes = flat_map (content_words style known) (contents (named_from bitmap 1) bytes)
+abbrev pub iso_fields_words : Style → Option (List (ℕ × List ℕ)) → List ℕ → List ℕ → List Piece
+iso_fields_words style known bitmap bytes = flat_map (content_words style known) (field_contents (named_from bitmap 1) bytes)
 
 -- a bitmap of eight bytes, and the fields
 abbrev pub rest_words : Style → Option (List (ℕ × List ℕ)) → List ℕ → List Piece
-rest_words style known rest = (if nat_le 8 (length rest) then fields_words style known (take 8 rest) (drop 8 rest) else [])
+rest_words style known rest = (if nat_le 8 (length rest) then iso_fields_words style known (take 8 rest) (drop 8 rest) else [])
 
 -- its type, and its fields
 abbrev pub message_words : Style → Option (List (ℕ × List ℕ)) → MessageData → Bool → List Piece

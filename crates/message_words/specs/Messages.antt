@@ -5,30 +5,30 @@ use Rattle.ber_tlv.specs.Left.{items_of, fault_of}
 use Rattle.ber_tlv.specs.declared.item.TlvFault.{TlvFault}
 use Rattle.object_words.specs.Objects.{objects_words}
 use Rattle.object_words.specs.declared.style.Style.{Style}
-use Rattle.word_lines.specs.Pieces.{Piece, line, text}
-use Rattle.message_words.specs.Iso.{MessageData, message_of, message_words, reply_code}
-use Rattle.message_words.specs.Objects.{message_style, beside_words}
+use Rattle.report_lines.specs.Pieces.{Piece, line, text}
+use Rattle.message_words.specs.Iso.{MessageData, iso_message_of, message_words, reply_code}
+use Rattle.message_words.specs.Objects.{message_style, new_objects_words}
 use Rattle.message_words.specs.declared.host.Settled.{Settled}
 use Rattle.message_words.specs.declared.host.Settled.TheVariants.{Nothing, Presentment, Reversal}
 use Rattle.message_words.specs.declared.phrases.TheConstants.{BOOKED, NO_OBJECTS, SET_FREE}
 
 -- the objects of a message, where they are whole
-abbrev pub whole_words : Option (List (ℕ × List ℕ)) → List ℕ → List Piece
-whole_words known objects =
-    if is_some (fault_of (items_of objects)) then text (codes ": ") ++ text NO_OBJECTS.now else beside_words known objects
+abbrev pub whole_objects_words : Option (List (ℕ × List ℕ)) → List ℕ → List Piece
+whole_objects_words known objects =
+    if is_some (fault_of (items_of objects)) then text (codes ": ") ++ text NO_OBJECTS.now else new_objects_words known objects
 
 -- a message of this name
-abbrev pub named_words : List ℕ → Option (List (ℕ × List ℕ)) → List ℕ → Bool → List Piece
-named_words name known objects brief = line 1 ++ text name ++ (if brief then [] else whole_words known objects)
+abbrev pub named_message_words : List ℕ → Option (List (ℕ × List ℕ)) → List ℕ → Bool → List Piece
+named_message_words name known objects brief = line 1 ++ text name ++ (if brief then [] else whole_objects_words known objects)
 
 -- a request repeats what the first GENERATE AC had; no other message repeats any
 abbrev pub request_or : List (ℕ × List ℕ) → Option (List ℕ) → List Piece → Bool → List Piece
 request_or first None other brief = other
-request_or first (Some objects) other brief = named_words (codes "request") (Some first) objects brief
+request_or first (Some objects) other brief = named_message_words (codes "request") (Some first) objects brief
 
 abbrev pub named_or : List ℕ → Option (List ℕ) → List Piece → Bool → List Piece
 named_or name None other brief = other
-named_or name (Some objects) other brief = named_words name None objects brief
+named_or name (Some objects) other brief = named_message_words name None objects brief
 
 abbrev pub settlement_words : List ℕ → Bool → List Piece
 settlement_words message brief =
@@ -45,13 +45,13 @@ repeats first kind = (if kind == 100 then Some first else None)
 abbrev pub typed_call : List (ℕ × List ℕ) → MessageData → Bool → List Piece
 typed_call first message brief = message_words (message_style 2 None) (repeats first message.kind) message brief
 
-abbrev pub call_by : List (ℕ × List ℕ) → Option MessageData → List ℕ → Bool → List Piece
-call_by first None bytes brief = objects_call first bytes brief
-call_by first (Some message) bytes brief = typed_call first message brief
+abbrev pub named_call_words : List (ℕ × List ℕ) → Option MessageData → List ℕ → Bool → List Piece
+named_call_words first None bytes brief = objects_call first bytes brief
+named_call_words first (Some message) bytes brief = typed_call first message brief
 
 -- a message to the issuer, behind a first GENERATE AC that had these fields
 unfoldable pub call_words : List (ℕ × List ℕ) → List ℕ → Bool → List Piece
-call_words first bytes brief = call_by first (message_of bytes) bytes brief
+call_words first bytes brief = named_call_words first (iso_message_of bytes) bytes brief
 
 -- which message of the settlement it is
 abbrev pub settled_by_type : ℕ → Settled
@@ -65,7 +65,7 @@ settled_of None bytes = settled_by_tag bytes
 settled_of (Some message) bytes = settled_by_type message.kind
 
 unfoldable pub settled_by : List ℕ → Settled
-settled_by bytes = settled_of (message_of bytes) bytes
+settled_by bytes = settled_of (iso_message_of bytes) bytes
 
 -- what the response code 00 says behind it
 abbrev pub meaning : Settled → Option (List ℕ)
@@ -87,7 +87,7 @@ reply_by settled (Some message) bytes brief = message_words (message_style 2 (me
 
 -- a reply of the issuer, behind this message of the settlement
 unfoldable pub reply_words : Settled → List ℕ → Bool → List Piece
-reply_words settled bytes brief = reply_by settled (message_of bytes) bytes brief
+reply_words settled bytes brief = reply_by settled (iso_message_of bytes) bytes brief
 
 -- the response code: of two bytes, in the object 8A
 abbrev pub if_two : List ℕ → Option (List ℕ)
@@ -114,4 +114,4 @@ code_by (Some message) bytes = reply_code message.rest
 
 -- the response code of a reply, where it has one
 unfoldable pub code_in : List ℕ → Option (List ℕ)
-code_in bytes = code_by (message_of bytes) bytes
+code_in bytes = code_by (iso_message_of bytes) bytes

@@ -4,13 +4,13 @@ use Rattle.std.specs.List.{flat_map, list_any}
 use Rattle.std.specs.Borrow.{Bor}
 use Rattle.ber_tlv.specs.Item.{ItemData}
 use Rattle.ber_tlv.specs.Written.{tag_bytes}
-use Rattle.list_words.specs.Fields.{fields_of, is_among}
-use Rattle.list_words.specs.declared.fields.Fields.{Fields}
+use Rattle.value_words.specs.Fields.{fields_of, has_field_of}
+use Rattle.value_words.specs.declared.fields.Fields.{Fields}
 use Rattle.object_words.specs.Leading.{leading_items}
 use Rattle.object_words.specs.Objects.{object_words}
 use Rattle.object_words.specs.declared.style.ResultsStyle.TheVariants.{OneLine}
 use Rattle.object_words.specs.declared.style.Style.{Style}
-use Rattle.word_lines.specs.Pieces.{Piece, line, text, hex}
+use Rattle.report_lines.specs.Pieces.{Piece, line, text, hex}
 use Rattle.message_words.specs.declared.phrases.TheConstants.{AS_BEFORE}
 
 -- the objects of a message at this level, with the bits of results in one line; `answer` is what the response code 00 says
@@ -31,7 +31,7 @@ sent_before known = option_map (λ fields. fields_of fields.list.now fields.data
 -- an object was sent before
 abbrev pub is_repeated : Option (List (ℕ × List ℕ)) → ItemData → Bool
 is_repeated None item = false
-is_repeated (Some known) item = is_among item.tag item.value known
+is_repeated (Some known) item = has_field_of item.tag item.value known
 
 -- an object in a line of its own
 abbrev pub own_line : ItemData → List Piece
@@ -51,5 +51,5 @@ repeated_words known items =
     if list_any (is_repeated known) items then line 2 ++ text AS_BEFORE.now ++ flat_map (if_repeated known) items else []
 
 -- the objects before the first fault in lines of their own, but those that were sent before, whose tags stand in a last line
-abbrev pub beside_words : Option (List (ℕ × List ℕ)) → List ℕ → List Piece
-beside_words known bytes = flat_map (if_new known) (leading_items bytes) ++ repeated_words known (leading_items bytes)
+abbrev pub new_objects_words : Option (List (ℕ × List ℕ)) → List ℕ → List Piece
+new_objects_words known bytes = flat_map (if_new known) (leading_items bytes) ++ repeated_words known (leading_items bytes)

@@ -11,7 +11,7 @@ fn is_digit(byte: u8) -> bool
 
 /// The number of two decimal digits.
 fn two_digits(high: u8, low: u8) -> Option<u32>
-    ensures exact { result ≡ spec.two_digits high low }
+    ensures exact { result ≡ spec.two_digits_number high low }
     ensures most { IfSome result (λ number. number ≤ 99) }
 {
     if is_digit(high) && is_digit(low) {
@@ -37,7 +37,7 @@ pub(crate) fn four_digits(digits: &[u8]) -> Option<u32>
 
 /// So many bytes, and those behind them.
 fn cut(count: Option<u32>, bytes: &[u8]) -> Option<(&[u8], &[u8])>
-    ensures { option_map (λ parts. (parts.0.now, parts.1.now)) result ≡ spec.cut count bytes.now }
+    ensures { option_map (λ parts. (parts.0.now, parts.1.now)) result ≡ spec.front_and_rest count bytes.now }
 {
     match count {
         Some(count) => bytes.split_at_checked(count as usize),
@@ -47,7 +47,7 @@ fn cut(count: Option<u32>, bytes: &[u8]) -> Option<(&[u8], &[u8])>
 
 /// The content of a field with its length in two digits before it, and what stands behind it.
 fn cut_short(bytes: &[u8]) -> Option<(&[u8], &[u8])>
-    ensures { option_map (λ parts. (parts.0.now, parts.1.now)) result ≡ spec.cut_short bytes.now }
+    ensures { option_map (λ parts. (parts.0.now, parts.1.now)) result ≡ spec.counted_content bytes.now }
 {
     match bytes.split_at_checked(2) {
         Some(([high, low], rest)) => cut(two_digits(*high, *low), rest),
@@ -95,7 +95,7 @@ pub(crate) fn cut_field(number: u32, bytes: &[u8]) -> Option<(&[u8], &[u8])>
 /// Whether the bitmap names a field, from 1 to 64.
 pub(crate) fn is_named(bitmap: &[u8], number: u32) -> bool
     requires { 0 < number }
-    ensures { result ≡ spec.is_named bitmap.now number }
+    ensures { result ≡ spec.has_field_bit bitmap.now number }
 {
     let place = number - 1;
     match bitmap.get((place / 8) as usize) {

@@ -1,7 +1,7 @@
 //! Messages to the issuer and its replies, in both dialects.
 ghost use Rattle.std.specs.Prelude.{◌≡◌, option_map};
-ghost use Rattle.list_words.specs.Fields.{fields_of};
-ghost use Rattle.word_lines.specs.Pieces.{Tells};
+ghost use Rattle.value_words.specs.Fields.{fields_of};
+ghost use Rattle.report_lines.specs.Pieces.{Tells};
 ghost use Rattle.message_words.specs.Iso.{seen_message};
 ghost use Rattle.message_words.specs.Messages as spec;
 ghost use Rattle.message_words.specs.Objects.{sent_before};
@@ -10,9 +10,9 @@ use crate::iso::{DEPTH, Message, read_message, reply_code, tell_message};
 use crate::objects::{message_style, tell_objects_beside};
 use crate::phrases::{BOOKED, NO_OBJECTS, SET_FREE};
 use ber_tlv::{Tag, first_fault, first_value, sole_value};
-use list_words::Fields;
 use object_words::{Style, tell_objects};
-use word_lines::WordLines;
+use report_lines::WordLines;
+use value_words::Fields;
 
 /// The message type of a request (ISO 8583:1987).
 const REQUEST: u32 = 100;
@@ -27,7 +27,7 @@ pub enum Settled {
 
 /// Tells the objects of a message, where they are whole.
 fn tell_whole(out: &mut WordLines, objects: &[u8], known: Option<Fields<'_>>)
-    ensures { Tells out.old out.new (spec.whole_words (sent_before known.entry) objects.now) }
+    ensures { Tells out.old out.new (spec.whole_objects_words (sent_before known.entry) objects.now) }
 {
     if first_fault(objects).is_some() {
         out.text(b": ");
@@ -45,7 +45,7 @@ fn tell_named(
     known: Option<Fields<'_>>,
     brief: bool,
 )
-    ensures { Tells out.old out.new (spec.named_words name.now (sent_before known.entry) objects.now brief) }
+    ensures { Tells out.old out.new (spec.named_message_words name.now (sent_before known.entry) objects.now brief) }
 {
     out.line(1);
     out.text(name);

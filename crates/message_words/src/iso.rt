@@ -1,17 +1,16 @@
 //! Messages in the style of ISO 8583:1987: a type of four digits, a bitmap of eight bytes, and the fields
 //! that it names, in rising order.
 ghost use Rattle.std.specs.Prelude.{◌≡◌, ◌<◌, option_map};
-ghost use Rattle.word_lines.specs.Pieces.{Tells};
+ghost use Rattle.report_lines.specs.Pieces.{Tells};
 ghost use Rattle.message_words.specs.Fields.{cut_field};
 ghost use Rattle.message_words.specs.Iso as spec;
 ghost use Rattle.message_words.specs.Objects.{sent_before};
 
 use crate::fields::{begins_with_code, cut_field, four_digits, is_named};
 use crate::objects::tell_objects_beside;
-use explain_words::{FIELDS, Form, MESSAGE_TYPES, word_of};
-use list_words::{Fields, tell_hex};
 use object_words::{Style, tell_objects, tell_value};
-use word_lines::WordLines;
+use report_lines::WordLines;
+use value_words::{FIELDS, Fields, Form, MESSAGE_TYPES, tell_hex, word_of};
 
 /// How deep objects within objects are told.
 pub(crate) const DEPTH: u8 = 8;
@@ -54,9 +53,9 @@ fn known_type(digits: &[u8]) -> Option<u32>
 }
 
 /// The type of a message, and what stands behind it; `None` where it has none that is known.
-#[tactic(auto, unfolding(crate::specs::Iso::message_of))]
+#[tactic(auto, unfolding(crate::specs::Iso::iso_message_of))]
 pub(crate) fn read_message(message: &[u8]) -> Option<Message<'_>>
-    ensures { option_map spec.seen_message result ≡ spec.message_of message.now }
+    ensures { option_map spec.seen_message result ≡ spec.iso_message_of message.now }
 {
     match message.split_at_checked(4) {
         Some((digits, rest)) => {
@@ -101,7 +100,7 @@ fn tell_behind(out: &mut WordLines, word: Option<&'static [u8]>)
 
 /// Tells a field in a line of its own.
 fn tell_field(out: &mut WordLines, number: u32, content: &[u8], style: &Style)
-    ensures { Tells out.old out.new (spec.field_words style.now number content.now) }
+    ensures { Tells out.old out.new (spec.iso_field_words style.now number content.now) }
 {
     out.line(style.level);
     out.text(b"field ");
@@ -177,7 +176,7 @@ fn tell_message_fields(
     style: &Style,
     known: Option<Fields<'_>>,
 )
-    ensures { Tells out.old out.new (spec.fields_words style.now (sent_before known.entry) bitmap.now fields.now) }
+    ensures { Tells out.old out.new (spec.iso_fields_words style.now (sent_before known.entry) bitmap.now fields.now) }
 {
     let mut rest = fields;
     for number in 1..65u32 {

@@ -3,15 +3,15 @@ ghost use Rattle.std.specs.Prelude.{◌≡◌};
 ghost use Rattle.std.specs.List.{flat_map, list_any};
 ghost use Rattle.ber_tlv.specs.Seen.{seen};
 ghost use Rattle.object_words.specs.Leading.{leading_items};
-ghost use Rattle.word_lines.specs.Pieces.{Tells};
+ghost use Rattle.report_lines.specs.Pieces.{Tells};
 ghost use Rattle.message_words.specs.Objects as spec;
 ghost use Rattle.message_words.specs.Objects.{sent_before};
 
 use crate::phrases::AS_BEFORE;
 use ber_tlv::{Cursor, Item, tag_bytes};
-use list_words::{Fields, has_field};
 use object_words::{Object, ResultsStyle, Style, next_item, tell_object};
-use word_lines::WordLines;
+use report_lines::WordLines;
+use value_words::{Fields, has_field};
 
 /// The objects of a message at this level, with the bits of results in one line.
 pub(crate) fn message_style(level: u8, answer: Option<&'static [u8]>) -> Style
@@ -111,7 +111,7 @@ fn tell_repeated(out: &mut WordLines, objects: &[u8], known: Option<Fields<'_>>)
 /// Tells the objects of a message in lines of their own, but those that were sent before, whose tags stand
 /// in a last line.
 pub(crate) fn tell_objects_beside(out: &mut WordLines, objects: &[u8], known: Option<Fields<'_>>)
-    ensures { Tells out.old out.new (spec.beside_words (sent_before known.entry) objects.now) }
+    ensures { Tells out.old out.new (spec.new_objects_words (sent_before known.entry) objects.now) }
 {
     tell_new(out, objects, known);
     tell_repeated(out, objects, known);

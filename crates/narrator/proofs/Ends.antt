@@ -1,22 +1,22 @@
 -- What is told of an end line, part by part.
 use Rattle.std.proofs.Common.{◌≡◌, ℕ, Bool, Option, ◌++◌, refl, subst}
-use Rattle.word_lines.specs.Lines.{WordsData}
-use Rattle.word_lines.specs.Pieces.{Tells}
-use Rattle.word_lines.proofs.Telling.{tells_then}
-use Rattle.narrator.specs.Endings.{hex_number, end_bits, cvm_words, code_words, scripts_words, set_fields}
-use Rattle.power_words.proofs.Parts.{tells_as}
-use Rattle.report_lines.specs.Reading.{FieldsData}
+use Rattle.report_lines.specs.Lines.{WordsData}
+use Rattle.report_lines.specs.Pieces.{Tells}
+use Rattle.report_lines.proofs.Telling.{tells_then}
+use Rattle.narrator.specs.Endings.{hex_number, end_bits, cvm_words, response_line_words, scripts_words, set_fields}
+use Rattle.message_words.proofs.Parts.{tells_as}
+use Rattle.report_lines.specs.Reading.{EndLineFields}
 
-fields_are : (f : FieldsData) (brief : Bool) → end_bits f brief ++ cvm_words (hex_number f.cvm) ++ code_words f.arc ++ scripts_words f.scripts ≡ set_fields f brief
+fields_are : (f : EndLineFields) (brief : Bool) → end_bits f brief ++ cvm_words (hex_number f.cvm) ++ response_line_words f.arc ++ scripts_words f.scripts ≡ set_fields f brief
 unfolding set_fields
 fields_are f brief = refl
 
 -- the fields of an end line
-pub fields_told : (first second third fourth last : WordsData) (f : FieldsData) (brief : Bool) (cvm : Option ℕ) → cvm ≡ hex_number f.cvm
-    → Tells first second (end_bits f brief) → Tells second third (cvm_words cvm) → Tells third fourth (code_words f.arc) → Tells fourth last (scripts_words f.scripts)
+pub fields_told : (first second third fourth last : WordsData) (f : EndLineFields) (brief : Bool) (cvm : Option ℕ) → cvm ≡ hex_number f.cvm
+    → Tells first second (end_bits f brief) → Tells second third (cvm_words cvm) → Tells third fourth (response_line_words f.arc) → Tells fourth last (scripts_words f.scripts)
     → Tells first last (set_fields f brief)
 fields_told first second third fourth last f brief cvm is bits verified code scripts =
-    tells_as first last (end_bits f brief ++ cvm_words (hex_number f.cvm) ++ code_words f.arc ++ scripts_words f.scripts) (set_fields f brief) (fields_are f brief)
-    (tells_then first fourth last (end_bits f brief ++ cvm_words (hex_number f.cvm) ++ code_words f.arc) (scripts_words f.scripts)
-    (tells_then first third fourth (end_bits f brief ++ cvm_words (hex_number f.cvm)) (code_words f.arc)
+    tells_as first last (end_bits f brief ++ cvm_words (hex_number f.cvm) ++ response_line_words f.arc ++ scripts_words f.scripts) (set_fields f brief) (fields_are f brief)
+    (tells_then first fourth last (end_bits f brief ++ cvm_words (hex_number f.cvm) ++ response_line_words f.arc) (scripts_words f.scripts)
+    (tells_then first third fourth (end_bits f brief ++ cvm_words (hex_number f.cvm)) (response_line_words f.arc)
     (tells_then first second third (end_bits f brief) (cvm_words (hex_number f.cvm)) bits (subst (λ (o : Option ℕ). Tells second third (cvm_words o)) is verified)) code) scripts)

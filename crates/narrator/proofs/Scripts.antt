@@ -2,9 +2,9 @@
 use Rattle.std.proofs.Common.{◌≡◌, ℕ, zero, suc, ◌+◌, ◌<◌, ◌≤◌, true, false, cond, nat_le, List, [], ◌++◌, length, take, drop, refl, sym, ap, subst, arith}
 use Rattle.std.proofs.lemmas.Bool.Decides.{nat_tests}
 use Rattle.std.proofs.lemmas.List.{length-drop}
-use Rattle.word_lines.specs.Lines.{WordsData}
-use Rattle.word_lines.specs.Pieces.{Piece, Tells}
-use Rattle.word_lines.proofs.Telling.{Left, left_start, left_more, left_as, left_end}
+use Rattle.report_lines.specs.Lines.{WordsData}
+use Rattle.report_lines.specs.Pieces.{Piece, Tells}
+use Rattle.report_lines.proofs.Telling.{Left, left_start, left_more, left_as, left_end}
 use Rattle.narrator.specs.Endings.{scripts_within, scripts_words, script_told, hex_number}
 
 -- of the results the rest is still to be told

@@ -3,22 +3,22 @@ use Rattle.std.specs.Prelude.{ℕ, zero, suc, ◌+◌, ◌-◌, ◌*◌, ◌/◌
 use Rattle.std.specs.List.{fold, list_all}
 use Rattle.std.specs.Int.{to_be_bytes, w32}
 use Rattle.std.specs.Str.{bytes_eq}
-use Rattle.word_lines.specs.Pieces.{Piece, line, text, number, hex, word_or}
-use Rattle.word_lines.specs.Bits.{bits_between}
-use Rattle.explain_words.specs.Words.{word_in, text_in, name_in}
-use Rattle.explain_words.specs.declared.bits.TheConstants.{STATUS_BITS}
-use Rattle.explain_words.specs.declared.codes.TheConstants.{CAUSES, CRYPTOGRAMS, RESPONSES, STEPS}
-use Rattle.explain_words.specs.declared.names.Form.{Form}
-use Rattle.explain_words.specs.declared.names.TheConstants.{NAMES}
+use Rattle.report_lines.specs.Pieces.{Piece, line, text, number, hex, word_or}
+use Rattle.report_lines.specs.Bits.{bits_between}
+use Rattle.value_words.specs.Words.{word_in, text_in, tag_name_in}
+use Rattle.value_words.specs.declared.bits.TheConstants.{STATUS_BITS}
+use Rattle.value_words.specs.declared.codes.TheConstants.{CAUSES, CRYPTOGRAMS, RESPONSES, STEPS}
+use Rattle.value_words.specs.declared.names.Form.{Form}
+use Rattle.value_words.specs.declared.names.TheConstants.{NAMES}
 use Rattle.emv_dict.specs.declared.ending.Kind.{Kind}
-use Rattle.action_words.specs.Told.{reason_words}
-use Rattle.action_words.specs.declared.reason.Reason.{Reason}
+use Rattle.value_words.specs.ReasonWords.{reason_words}
+use Rattle.value_words.specs.declared.reason.Reason.{Reason}
 use Rattle.object_words.specs.Bits.{bit_word}
 use Rattle.object_words.specs.Results.{results_words}
-use Rattle.list_words.specs.Lists.{performed_rule}
-use Rattle.lane_words.specs.Statuses.{status_words, kind_name}
-use Rattle.lane_words.specs.declared.lane.LaneState.{LaneState}
-use Rattle.report_lines.specs.Reading.{EndingData, Approved, Declined, Terminated, Cut, FieldsData}
+use Rattle.value_words.specs.Lists.{performed_rule}
+use Rattle.value_words.specs.Statuses.{status_words, kind_name}
+use Rattle.exchange_words.specs.declared.lane.LaneState.{LaneState}
+use Rattle.report_lines.specs.Reading.{EndingData, Approved, Declined, Terminated, Cut, EndLineFields}
 use Rattle.narrator.specs.declared.phrases.TheConstants.{ENDED_AT, PULLED_OUT, CARD_ANSWERED, ASKED_FOR, ALL_CARRIED_OUT, NO_SCRIPT}
 
 -- a lower-case hexadecimal digit
@@ -29,20 +29,20 @@ abbrev pub hex_digit : ℕ → ℕ
 hex_digit byte = (if nat_le byte 57 then byte - 48 else byte - 87)
 
 -- the number of such digits, or the greatest of 64 bits where it is above that
-abbrev pub digits_number : List ℕ → ℕ
-digits_number digits = min (fold (λ n digit. n * 16 + hex_digit digit) 0 digits) (2 ^ 64 - 1)
+abbrev pub hex_digits_number : List ℕ → ℕ
+hex_digits_number digits = min (fold (λ n digit. n * 16 + hex_digit digit) 0 digits) (2 ^ 64 - 1)
 
 -- the number of 1 to 16 such digits
 unfoldable pub hex_number : List ℕ → Option ℕ
 hex_number digits =
-    if not (length digits == 0) && (nat_le (length digits) 16 && list_all is_hex_digit digits) then Some (digits_number digits) else None
+    if not (length digits == 0) && (nat_le (length digits) 16 && list_all is_hex_digit digits) then Some (hex_digits_number digits) else None
 
 -- the words of a step, or the step itself
-unfoldable pub step_word : List ℕ → Option (List ℕ)
-step_word step = text_in (map (λ w. (w.0.now, w.1.now)) STEPS) step
+unfoldable pub step_in_words : List ℕ → Option (List ℕ)
+step_in_words step = text_in (map (λ w. (w.0.now, w.1.now)) STEPS) step
 
-abbrev pub step_words : List ℕ → List Piece
-step_words step = word_or (text step) (step_word step)
+abbrev pub named_step_words : List ℕ → List Piece
+named_step_words step = word_or (text step) (step_in_words step)
 
 -- the words of a cause, or the cause itself
 unfoldable pub cause_word : List ℕ → Option (List ℕ)
@@ -52,8 +52,8 @@ abbrev pub cause_words : List ℕ → List Piece
 cause_words cause = word_or (text cause) (cause_word cause)
 
 -- the instruction whose answers a step reads; 0 where a step reads those of none, or of several
-abbrev pub instruction_of : List ℕ → ℕ
-instruction_of step =
+abbrev pub step_instruction : List ℕ → ℕ
+step_instruction step =
     if bytes_eq step (codes "select") then 0xA4
     else if bytes_eq step (codes "initiate") then 0xA8
     else if bytes_eq step (codes "read") then 0xB2
@@ -66,14 +66,14 @@ behind_blank (Some word) = text (codes " ") ++ text word
 
 -- the name of the tag of this number
 unfoldable pub tag_name : ℕ → Option (List ℕ × Form)
-tag_name tag = name_in (map (λ n. (n.0, n.1.now, n.2)) NAMES) tag
+tag_name tag = tag_name_in (map (λ n. (n.0, n.1.now, n.2)) NAMES) tag
 
-abbrev pub tag_words : ℕ → List Piece
-tag_words tag = behind_blank (option_map (λ named. named.0) (tag_name (tag % 2 ^ 24)))
+abbrev pub tag_name_words : ℕ → List Piece
+tag_name_words tag = behind_blank (option_map (λ named. named.0) (tag_name (tag % 2 ^ 24)))
 
 -- the word of a kind of cryptogram
-abbrev pub kind_words : ℕ → List Piece
-kind_words byte = behind_blank (word_in (map (λ w. (w.0, w.1.now)) CRYPTOGRAMS) (byte % 256 / 64 * 64))
+abbrev pub ended_kind_words : ℕ → List Piece
+ended_kind_words byte = behind_blank (word_in (map (λ w. (w.0, w.1.now)) CRYPTOGRAMS) (byte % 256 / 64 * 64))
 
 abbrev pub names_tag : List ℕ → Bool
 names_tag cause = bytes_eq cause (codes "repeated") || bytes_eq cause (codes "missing") || bytes_eq cause (codes "value") || bytes_eq cause (codes "dol")
@@ -82,9 +82,9 @@ names_tag cause = bytes_eq cause (codes "repeated") || bytes_eq cause (codes "mi
 abbrev pub detail_words : List ℕ → List ℕ → Option ℕ → List Piece
 detail_words step cause None = []
 detail_words step cause (Some n) =
-    if bytes_eq cause (codes "status") then text (codes " ") ++ status_words (instruction_of step) (n % 65536)
-    else if bytes_eq cause (codes "kind") then kind_words n
-    else if names_tag cause then tag_words n
+    if bytes_eq cause (codes "status") then text (codes " ") ++ status_words (step_instruction step) (n % 65536)
+    else if bytes_eq cause (codes "kind") then ended_kind_words n
+    else if names_tag cause then tag_name_words n
     else []
 
 abbrev pub in_brackets : List ℕ → List ℕ → List ℕ → List Piece
@@ -94,11 +94,11 @@ in_brackets step cause detail =
 -- an end in a step, for a cause
 abbrev pub terminated_words : List ℕ → List ℕ → List ℕ → List Piece
 terminated_words step cause detail =
-    line 1 ++ text ENDED_AT.now ++ step_words step ++ text (codes ": ") ++ cause_words cause ++ in_brackets step cause detail
+    line 1 ++ text ENDED_AT.now ++ named_step_words step ++ text (codes ": ") ++ cause_words cause ++ in_brackets step cause detail
 
 -- an ending that is no decision
 abbrev pub break_words : EndingData → List Piece
-break_words (Cut step) = line 1 ++ text PULLED_OUT.now ++ step_words step
+break_words (Cut step) = line 1 ++ text PULLED_OUT.now ++ named_step_words step
 break_words (Terminated step cause detail) = terminated_words step cause detail
 break_words Approved = []
 break_words Declined = []
@@ -143,8 +143,8 @@ abbrev pub response_words : ℕ → List Piece
 response_words code = word_or (text (codes "not known")) (response_word code)
 
 -- the response code, where there is one
-abbrev pub code_words : List ℕ → List Piece
-code_words code =
+abbrev pub response_line_words : List ℕ → List Piece
+response_line_words code =
     if bytes_eq code (codes "--") then []
     else if length code == 2
     then line 1 ++ text (codes "code ") ++ text code ++ text (codes ": ") ++ response_words (slice_index code 0 * 256 + slice_index code 1)
@@ -161,8 +161,8 @@ script_result kind command =
     else text NO_SCRIPT.now
 
 -- the result of a script: five bytes as one number, the first half byte its kind (EMV 4.3 Book 4 Annex A5)
-unfoldable pub script_words : ℕ → List Piece
-script_words bytes =
+unfoldable pub script_result_words : ℕ → List Piece
+script_result_words bytes =
     let first = bytes / 2 ^ 32 % 256 in
     line 1 ++ text (codes "script ") ++ hex (to_be_bytes w32 (bytes % 2 ^ 32)) ++ script_result (first / 16) (first % 16)
 
@@ -174,7 +174,7 @@ abbrev pub tsi_words : Option ℕ → List Piece
 tsi_words None = []
 tsi_words (Some status) = line 1 ++ text (codes "TSI ") ++ performed_words status
 
-abbrev pub end_bits : FieldsData → Bool → List Piece
+abbrev pub end_bits : EndLineFields → Bool → List Piece
 end_bits f true = []
 end_bits f false = tvr_words (hex_number f.tvr) ++ tsi_words (hex_number f.tsi)
 
@@ -182,16 +182,16 @@ abbrev pub reached_words : ℕ → List Piece
 reached_words cvm = (if cvm == 0 then text (codes "not reached") else performed_rule (cvm / 65536 % 256) (cvm / 256 % 256) (cvm % 256))
 
 -- the result of cardholder verification: three bytes as one number
-unfoldable pub verification_words : ℕ → List Piece
-verification_words cvm = line 1 ++ text (codes "CVM ") ++ reached_words cvm
+unfoldable pub verification_line_words : ℕ → List Piece
+verification_line_words cvm = line 1 ++ text (codes "CVM ") ++ reached_words cvm
 
 abbrev pub cvm_words : Option ℕ → List Piece
 cvm_words None = []
-cvm_words (Some cvm) = verification_words cvm
+cvm_words (Some cvm) = verification_line_words cvm
 
 abbrev pub script_told : Option ℕ → List Piece
 script_told None = []
-script_told (Some bytes) = script_words bytes
+script_told (Some bytes) = script_result_words bytes
 
 -- the results of scripts, ten digits each; there are `most` of them at most
 unfoldable pub scripts_within : ℕ → List ℕ → List Piece
@@ -207,19 +207,19 @@ is_nothing None = false
 is_nothing (Some number) = number == 0
 
 -- no step has set anything
-abbrev pub is_untouched : FieldsData → Bool
-is_untouched f =
+abbrev pub has_set_nothing : EndLineFields → Bool
+has_set_nothing f =
     is_nothing (hex_number f.tvr) && (is_nothing (hex_number f.tsi) && (is_nothing (hex_number f.cvm)
     && (bytes_eq f.arc (codes "--") && bytes_eq f.scripts (codes "-"))))
 
 -- the fields of an end line that some step has set
-unfoldable pub set_fields : FieldsData → Bool → List Piece
-set_fields f brief = end_bits f brief ++ cvm_words (hex_number f.cvm) ++ code_words f.arc ++ scripts_words f.scripts
+unfoldable pub set_fields : EndLineFields → Bool → List Piece
+set_fields f brief = end_bits f brief ++ cvm_words (hex_number f.cvm) ++ response_line_words f.arc ++ scripts_words f.scripts
 
 -- the fields of an end line
-abbrev pub end_fields : FieldsData → Bool → List Piece
-end_fields f brief = (if is_untouched f then [] else set_fields f brief)
+abbrev pub end_fields : EndLineFields → Bool → List Piece
+end_fields f brief = (if has_set_nothing f then [] else set_fields f brief)
 
 -- an end line, behind what the lane's lines before it left
-abbrev pub end_words : LaneState → EndingData → FieldsData → Bool → List Piece
+abbrev pub end_words : LaneState → EndingData → EndLineFields → Bool → List Piece
 end_words lane ending fields brief = ending_words lane ending ++ end_fields fields brief

@@ -1,4 +1,4 @@
 pub mod Endings
-pub mod Shown
+pub mod Filters
 pub mod State
 pub mod Words

@@ -2,13 +2,13 @@
 use Rattle.std.specs.Prelude.{ℕ, List, [], replicate, slice_get, slice_set, Option, Some, None}
 use Rattle.exchange_words.specs.Answers.{left_by_answer}
 use Rattle.exchange_words.specs.Commands.{left_by_command}
-use Rattle.lane_words.specs.Lanes.{fresh, without_command}
-use Rattle.lane_words.specs.Terminals.{row_for}
-use Rattle.lane_words.specs.declared.terminal.Terminal.{Terminal}
+use Rattle.exchange_words.specs.Lanes.{fresh, without_command}
+use Rattle.exchange_words.specs.Terminals.{row_for}
+use Rattle.exchange_words.specs.declared.terminal.Terminal.{Terminal}
 use Rattle.message_words.specs.Messages.{code_in, settled_by}
 use Rattle.message_words.specs.declared.host.Settled.TheVariants.{Nothing}
-use Rattle.power_words.specs.Cards.{kept_cards}
-use Rattle.power_words.specs.declared.cards.CardSeen.{CardSeen}
+use Rattle.message_words.specs.Cards.{kept_cards}
+use Rattle.message_words.specs.declared.cards.CardSeen.{CardSeen}
 use Rattle.report_lines.specs.Bytes.{bytes_told}
 use Rattle.report_lines.specs.Reading.{LineData, WhatData, WhoseData, Lane, Settlement, Audit, Report, Power, PowerTorn, PowerCanned, Sent, Given, FromHost, End, Lost}
 use Rattle.narrator.specs.declared.filter.Filter.{Filter}
@@ -40,32 +40,32 @@ changed_at change lanes place None = lanes
 changed_at change lanes place (Some past) = slice_set lanes place (change past)
 
 -- the lane of this place is changed so
-abbrev pub changed : (LanePast → LanePast) → StateData → ℕ → StateData
-changed change state place = record state { lanes = changed_at change state.lanes place (slice_get state.lanes place) }
+abbrev pub state_changed : (LanePast → LanePast) → StateData → ℕ → StateData
+state_changed change state place = record state { lanes = changed_at change state.lanes place (slice_get state.lanes place) }
 
 -- a purchase of this number has ended
-abbrev pub ended : ℕ → LanePast → LanePast
-ended number past = record past { last_end = number }
+abbrev pub lane_ended_purchase : ℕ → LanePast → LanePast
+lane_ended_purchase number past = record past { last_end = number }
 
 -- a card is powered up: nothing is left of the last one
-abbrev pub begun : LanePast → LanePast
-begun past = record past { talk = fresh }
+abbrev pub lane_begun : LanePast → LanePast
+lane_begun past = record past { talk = fresh }
 
 -- and its counters are kept
-abbrev pub powered : List ℕ → List ℕ → StateData → ℕ → StateData
-powered card apps state place = record { lanes = (changed begun state place).lanes; cards = kept_cards state.cards card apps }
+abbrev pub state_powered : List ℕ → List ℕ → StateData → ℕ → StateData
+state_powered card apps state place = record { lanes = (state_changed lane_begun state place).lanes; cards = kept_cards state.cards card apps }
 
 -- a command, behind what is known of the application's row at the terminal
-abbrev pub asked : List Terminal → ℕ → List ℕ → LanePast → LanePast
-asked terminals place bytes past = record past { talk = left_by_command past.talk bytes (row_for terminals place past.talk.name.items) }
+abbrev pub lane_asked : List Terminal → ℕ → List ℕ → LanePast → LanePast
+lane_asked terminals place bytes past = record past { talk = left_by_command past.talk bytes (row_for terminals place past.talk.name.items) }
 
 -- an answer to the last command
-abbrev pub answered : List ℕ → LanePast → LanePast
-answered bytes past = record past { talk = left_by_answer (without_command past.talk) past.talk.command.items bytes }
+abbrev pub lane_answered : List ℕ → LanePast → LanePast
+lane_answered bytes past = record past { talk = left_by_answer (without_command past.talk) past.talk.command.items bytes }
 
 -- a reply of the issuer: its response code
-abbrev pub replied : List ℕ → LanePast → LanePast
-replied bytes past = record past { talk = record past.talk { code = code_in bytes } }
+abbrev pub lane_replied : List ℕ → LanePast → LanePast
+lane_replied bytes past = record past { talk = record past.talk { code = code_in bytes } }
 
 -- a message of the settlement: which it is
 abbrev pub settling : List ℕ → LanePast → LanePast
@@ -73,9 +73,9 @@ settling bytes past = record past { settled = settled_by bytes }
 
 -- what the bytes of a command, an answer or a reply leave
 abbrev pub left_of_bytes : Manner → WhatData → List ℕ → StateData → ℕ → StateData
-left_of_bytes manner (Sent text) bytes state place = changed (asked manner.terminals place bytes) state place
-left_of_bytes manner (Given text) bytes state place = changed (answered bytes) state place
-left_of_bytes manner (FromHost text) bytes state place = changed (replied bytes) state place
+left_of_bytes manner (Sent text) bytes state place = state_changed (lane_asked manner.terminals place bytes) state place
+left_of_bytes manner (Given text) bytes state place = state_changed (lane_answered bytes) state place
+left_of_bytes manner (FromHost text) bytes state place = state_changed (lane_replied bytes) state place
 left_of_bytes manner _ bytes state place = state
 
 -- a text that is no bytes leaves what was
@@ -85,23 +85,23 @@ left_of_exchange manner what (Some bytes) state place = left_of_bytes manner wha
 
 -- what a line leaves that tells enough by itself
 abbrev pub kept_alone : WhatData → StateData → ℕ → StateData
-kept_alone (PowerTorn card) state place = changed begun state place
-kept_alone (PowerCanned card) state place = changed begun state place
-kept_alone (Lost number) state place = changed (ended number) state place
+kept_alone (PowerTorn card) state place = state_changed lane_begun state place
+kept_alone (PowerCanned card) state place = state_changed lane_begun state place
+kept_alone (Lost number) state place = state_changed (lane_ended_purchase number) state place
 kept_alone _ state place = state
 
 -- what a line of a lane or of the audit leaves
-abbrev pub left_at : Manner → WhatData → StateData → ℕ → StateData
-left_at manner (Power card apps) state place = powered card apps state place
-left_at manner (Sent text) state place = left_of_exchange manner (Sent text) (bytes_told text) state place
-left_at manner (Given text) state place = left_of_exchange manner (Given text) (bytes_told text) state place
-left_at manner (FromHost text) state place = left_of_exchange manner (FromHost text) (bytes_told text) state place
-left_at manner (End number ending fields) state place = changed (ended number) state place
-left_at manner what state place = kept_alone what state place
+abbrev pub lane_left_by : Manner → WhatData → StateData → ℕ → StateData
+lane_left_by manner (Power card apps) state place = state_powered card apps state place
+lane_left_by manner (Sent text) state place = left_of_exchange manner (Sent text) (bytes_told text) state place
+lane_left_by manner (Given text) state place = left_of_exchange manner (Given text) (bytes_told text) state place
+lane_left_by manner (FromHost text) state place = left_of_exchange manner (FromHost text) (bytes_told text) state place
+lane_left_by manner (End number ending fields) state place = state_changed (lane_ended_purchase number) state place
+lane_left_by manner what state place = kept_alone what state place
 
 abbrev pub left_by_settling : Option (List ℕ) → StateData → ℕ → StateData
 left_by_settling None state place = state
-left_by_settling (Some bytes) state place = changed (settling bytes) state place
+left_by_settling (Some bytes) state place = state_changed (settling bytes) state place
 
 -- what a line of the settlement leaves
 abbrev pub left_by_settlement : WhatData → StateData → ℕ → StateData
@@ -117,11 +117,11 @@ abbrev pub audit_place : ℕ
 audit_place = 16
 
 abbrev pub left_by_whose : Manner → WhoseData → WhatData → StateData → StateData
-left_by_whose manner (Lane lane) what state = left_at manner what state lane
+left_by_whose manner (Lane lane) what state = lane_left_by manner what state lane
 left_by_whose manner (Settlement lane) what state = left_by_settlement what state lane
-left_by_whose manner (Audit card) what state = left_at manner what state audit_place
+left_by_whose manner (Audit card) what state = lane_left_by manner what state audit_place
 left_by_whose manner Report what state = state
 
 -- what a line leaves
-abbrev pub left_by : Manner → LineData → StateData → StateData
-left_by manner line state = left_by_whose manner line.whose line.what state
+abbrev pub state_left_by : Manner → LineData → StateData → StateData
+state_left_by manner line state = left_by_whose manner line.whose line.what state

@@ -1,24 +1,24 @@
 -- What is told of a line, behind what the lines before it left.
 use Rattle.std.specs.Prelude.{ℕ, ◌≡◌, ◌%◌, Bool, if◌then◌else◌, List, [], ◌++◌, map, slice_get, Option, Some, None, option_map, unwrap_or}
-use Rattle.word_lines.specs.Pieces.{Piece, line, text, number, lines_of}
-use Rattle.explain_words.specs.Words.{word_in}
-use Rattle.explain_words.specs.declared.codes.TheConstants.{REFUSALS}
+use Rattle.report_lines.specs.Pieces.{Piece, line, text, number, lines_of}
+use Rattle.value_words.specs.Words.{word_in}
+use Rattle.value_words.specs.declared.codes.TheConstants.{REFUSALS}
 use Rattle.exchange_words.specs.Answers.{words_of_answer}
 use Rattle.exchange_words.specs.Commands.{words_of_command}
-use Rattle.lane_words.specs.Lanes.{without_command}
-use Rattle.lane_words.specs.Terminals.{row_for}
-use Rattle.lane_words.specs.Torn.{torn_words}
-use Rattle.lane_words.specs.declared.terminal.Terminal.{Terminal}
-use Rattle.list_words.specs.Fields.{fields_of}
+use Rattle.exchange_words.specs.Lanes.{without_command}
+use Rattle.exchange_words.specs.Terminals.{row_for}
+use Rattle.exchange_words.specs.Torn.{torn_words}
+use Rattle.exchange_words.specs.declared.terminal.Terminal.{Terminal}
+use Rattle.value_words.specs.Fields.{fields_of}
 use Rattle.message_words.specs.Messages.{call_words, reply_words}
 use Rattle.message_words.specs.declared.host.Settled.TheVariants.{Nothing}
 use Rattle.object_words.specs.Objects.{object_words, plain}
-use Rattle.power_words.specs.Cards.{power_words}
+use Rattle.message_words.specs.Cards.{power_words}
 use Rattle.report_lines.specs.Bytes.{bytes_told}
-use Rattle.report_lines.specs.Reading.{LineData, WhatData, WhoseData, EndingData, FieldsData, line_in, Lane, Settlement, Audit, Report, Power, PowerTorn, PowerCanned, Sent, Given, Torn, ToHost, FromHost, End, Gone, NoReply, Lost, Object, Refused, Differs, ReadEnded}
+use Rattle.report_lines.specs.Reading.{LineData, WhatData, WhoseData, EndingData, EndLineFields, line_in, Lane, Settlement, Audit, Report, Power, PowerTorn, PowerCanned, Sent, Given, Torn, ToHost, FromHost, End, Gone, NoReply, Lost, Object, Refused, Differs, ReadEnded}
 use Rattle.narrator.specs.Endings.{break_words, end_words, hex_number}
-use Rattle.narrator.specs.Shown.{is_shown, shows_all}
-use Rattle.narrator.specs.State.{Manner, StateData, left_by, audit_place}
+use Rattle.narrator.specs.Filters.{is_left_by_filters, shows_all}
+use Rattle.narrator.specs.State.{Manner, StateData, state_left_by, audit_place}
 use Rattle.narrator.specs.declared.filter.Filter.{Filter}
 use Rattle.narrator.specs.declared.past.LanePast.{LanePast}
 use Rattle.narrator.specs.declared.phrases.TheConstants.{POWER_TORN, POWER_CANNED, CARD_GONE, NO_REPLY, PURCHASE_LOST, TRACE_DIFFERS, OR_MISSING}
@@ -110,20 +110,20 @@ of_object None value = []
 of_object (Some tag) value = object_told tag value
 
 -- a line of no lane and no card
-abbrev pub of_report : Bool → WhatData → List Piece
-of_report brief (Object tag value) = (if brief then [] else of_object (hex_number tag) (bytes_told value))
-of_report brief (ReadEnded ending) = break_words ending
-of_report brief (Refused fault) = refusal_words fault
-of_report brief (Differs entry) = differs_words entry
-of_report brief _ = []
+abbrev pub report_words : Bool → WhatData → List Piece
+report_words brief (Object tag value) = (if brief then [] else of_object (hex_number tag) (bytes_told value))
+report_words brief (ReadEnded ending) = break_words ending
+report_words brief (Refused fault) = refusal_words fault
+report_words brief (Differs entry) = differs_words entry
+report_words brief _ = []
 
 -- a lane's last command was left without an answer
 abbrev pub torn_at : Option LanePast → List Piece
 torn_at past = at_past (λ it. torn_words it.talk.command.items) past
 
 -- a lane's purchase ended
-abbrev pub end_at : Option LanePast → EndingData → FieldsData → Bool → List Piece
-end_at past ending fields brief = at_past (λ it. end_words it.talk ending fields brief) past
+abbrev pub lane_end_words : Option LanePast → EndingData → EndLineFields → Bool → List Piece
+lane_end_words past ending fields brief = at_past (λ it. end_words it.talk ending fields brief) past
 
 -- a line of a lane or of the audit
 abbrev pub at_lane : Manner → StateData → ℕ → WhatData → List Piece
@@ -133,41 +133,41 @@ at_lane manner state place (Given text) = talk_words manner state place (Given t
 at_lane manner state place (ToHost text) = talk_words manner state place (ToHost text) (bytes_told text)
 at_lane manner state place (FromHost text) = talk_words manner state place (FromHost text) (bytes_told text)
 at_lane manner state place Torn = torn_at (slice_get state.lanes place)
-at_lane manner state place (End number ending fields) = end_at (slice_get state.lanes place) ending fields manner.filter.brief
+at_lane manner state place (End number ending fields) = lane_end_words (slice_get state.lanes place) ending fields manner.filter.brief
 at_lane manner state place what = unwrap_or (of_talk what) []
 
 abbrev pub by_whose : Manner → StateData → WhoseData → WhatData → List Piece
 by_whose manner state (Lane lane) what = at_lane manner state lane what
 by_whose manner state (Audit card) what = at_lane manner state audit_place what
 by_whose manner state (Settlement lane) what = of_settlement manner.filter.brief state lane what
-by_whose manner state Report what = of_report manner.filter.brief what
+by_whose manner state Report what = report_words manner.filter.brief what
 
 -- what is told of a line behind this state, in this manner
-abbrev pub said : Manner → StateData → LineData → List Piece
-said manner state line = by_whose manner state line.whose line.what
+abbrev pub line_said : Manner → StateData → LineData → List Piece
+line_said manner state line = by_whose manner state line.whose line.what
 
 -- the number of the last purchase of a line's lane that ended before it; 0 where none has
-abbrev pub end_of : Option LanePast → ℕ
-end_of None = 0
-end_of (Some past) = past.last_end
+abbrev pub last_end_of : Option LanePast → ℕ
+last_end_of None = 0
+last_end_of (Some past) = past.last_end
 
 abbrev pub last_end : StateData → WhoseData → ℕ
-last_end state (Lane lane) = end_of (slice_get state.lanes lane)
+last_end state (Lane lane) = last_end_of (slice_get state.lanes lane)
 last_end state _ = 0
 
 -- whether a line is left by the filter
 abbrev pub is_left : Filter → StateData → LineData → Bool
-is_left filter state line = is_shown filter line (last_end state line.whose)
+is_left filter state line = is_left_by_filters filter line (last_end state line.whose)
 
 -- the words of a text and what it leaves: of a line of a report these; a text that is no line has no words, and leaves what
 -- was, and is left where all is
 abbrev pub words_by : Manner → StateData → Option LineData → List Piece
 words_by manner state None = []
-words_by manner state (Some line) = said manner state line
+words_by manner state (Some line) = line_said manner state line
 
 abbrev pub state_by : Manner → StateData → Option LineData → StateData
 state_by manner state None = state
-state_by manner state (Some line) = left_by manner line state
+state_by manner state (Some line) = state_left_by manner line state
 
 abbrev pub left_where : Filter → StateData → Option LineData → Bool
 left_where filter state None = shows_all filter

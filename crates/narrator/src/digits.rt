@@ -23,7 +23,7 @@ fn digit_value(byte: u8) -> u8
 
 /// The number of these hexadecimal digits.
 fn digits_number(digits: &[u8]) -> u64
-    ensures { result ≡ spec.digits_number digits.now }
+    ensures { result ≡ spec.hex_digits_number digits.now }
 {
     let mut number: u64 = 0;
     for digit in digits {

@@ -2,34 +2,32 @@
 ghost use Rattle.std.specs.Prelude.{◌≡◌, ◌<◌, ◌||◌, ◌++◌, [], if◌then◌else◌, codes, option_map, Some};
 ghost use Rattle.narrator.specs.Endings as spec;
 ghost use Rattle.report_lines.specs.Reading.{seen_ending, seen_fields};
-ghost use Rattle.word_lines.specs.Bits.{has_bit};
-ghost use Rattle.word_lines.specs.Pieces as piece;
-ghost use Rattle.word_lines.specs.Pieces.{Tells};
+ghost use Rattle.report_lines.specs.Bits.{has_bit};
+ghost use Rattle.report_lines.specs.Pieces as piece;
+ghost use Rattle.report_lines.specs.Pieces.{Tells};
 
 use crate::digits::hex_number;
 use crate::phrases::{ALL_CARRIED_OUT, ASKED_FOR, CARD_ANSWERED, ENDED_AT, NO_SCRIPT, PULLED_OUT};
-use action_words::{Reason, tell_reason};
 use ber_tlv::Tag;
 use emv_dict::Kind;
-use explain_words::{
-    CAUSES, CRYPTOGRAMS, Form, RESPONSES, STATUS_BITS, STEPS, name_of, word_of, word_of_text,
-};
-use lane_words::{LaneState, kind_name, tell_status};
-use list_words::tell_performed_rule;
+use exchange_words::{LaneState, kind_name};
 use object_words::{tell_bit_word, tell_results};
-use report_lines::{EndFields, Ending};
-use word_lines::WordLines;
+use report_lines::{EndFields, Ending, WordLines};
+use value_words::{
+    CAUSES, CRYPTOGRAMS, Form, RESPONSES, Reason, STATUS_BITS, STEPS, name_of, tell_performed_rule,
+    tell_reason, tell_status, word_of, word_of_text,
+};
 
 /// The words of a step.
 fn step_word(step: &[u8]) -> Option<&'static [u8]>
-    ensures { option_map (λ word. word.now) result ≡ spec.step_word step.now }
+    ensures { option_map (λ word. word.now) result ≡ spec.step_in_words step.now }
 {
     word_of_text(&STEPS, step)
 }
 
 /// Tells a step.
 fn tell_step(out: &mut WordLines, step: &[u8])
-    ensures { Tells out.old out.new (spec.step_words step.now) }
+    ensures { Tells out.old out.new (spec.named_step_words step.now) }
 {
     match step_word(step) {
         Some(word) => out.text(word),
@@ -39,7 +37,7 @@ fn tell_step(out: &mut WordLines, step: &[u8])
 
 /// The instruction whose answers a step reads.
 fn instruction_of(step: &[u8]) -> u8
-    ensures { result ≡ spec.instruction_of step.now }
+    ensures { result ≡ spec.step_instruction step.now }
 {
     if step == b"select".as_slice() {
         0xa4
@@ -63,7 +61,7 @@ fn tag_name(tag: u32) -> Option<(&'static [u8], Form)>
 
 /// Tells the name of a tag, whose number this is.
 fn tell_tag_name(out: &mut WordLines, number: u64)
-    ensures { Tells out.old out.new (spec.tag_words number) }
+    ensures { Tells out.old out.new (spec.tag_name_words number) }
 {
     if let Some((name, _)) = tag_name((number % 0x100_0000) as u32) {
         out.text(b" ");
@@ -73,7 +71,7 @@ fn tell_tag_name(out: &mut WordLines, number: u64)
 
 /// Tells the word of a kind of cryptogram.
 fn tell_kind(out: &mut WordLines, number: u64)
-    ensures { Tells out.old out.new (spec.kind_words number) }
+    ensures { Tells out.old out.new (spec.ended_kind_words number) }
 {
     if let Some(word) = word_of(&CRYPTOGRAMS, (number % 256 / 64 * 64) as u32) {
         out.text(b" ");
@@ -284,9 +282,9 @@ fn tell_reached(out: &mut WordLines, cvm: u64)
 }
 
 /// Tells the result of cardholder verification.
-#[tactic(auto, unfolding(crate::specs::Endings::verification_words))]
+#[tactic(auto, unfolding(crate::specs::Endings::verification_line_words))]
 fn tell_verification(out: &mut WordLines, cvm: u64)
-    ensures { Tells out.old out.new (spec.verification_words cvm) }
+    ensures { Tells out.old out.new (spec.verification_line_words cvm) }
 {
     out.line(1);
     out.text(b"CVM ");
@@ -312,7 +310,7 @@ fn tell_code_words(out: &mut WordLines, code: u32)
 
 /// Tells the response code.
 fn tell_code(out: &mut WordLines, arc: &[u8])
-    ensures { Tells out.old out.new (spec.code_words arc.now) }
+    ensures { Tells out.old out.new (spec.response_line_words arc.now) }
 {
     if arc == b"--".as_slice() {
         return;
@@ -340,9 +338,9 @@ fn tell_failed(out: &mut WordLines, command: u64)
 }
 
 /// Tells the result of a script: five bytes as one number (EMV 4.3 Book 4 Annex A5).
-#[tactic(auto, unfolding(crate::specs::Endings::script_words))]
+#[tactic(auto, unfolding(crate::specs::Endings::script_result_words))]
 fn tell_script(out: &mut WordLines, bytes: u64)
-    ensures { Tells out.old out.new (spec.script_words bytes) }
+    ensures { Tells out.old out.new (spec.script_result_words bytes) }
 {
     out.line(1);
     out.text(b"script ");
@@ -396,7 +394,7 @@ fn is_nothing(digits: &[u8]) -> bool
 
 /// Whether no step has set anything.
 fn is_untouched(fields: &EndFields<'_>) -> bool
-    ensures { result ≡ spec.is_untouched (seen_fields fields.now) }
+    ensures { result ≡ spec.has_set_nothing (seen_fields fields.now) }
 {
     is_nothing(fields.tvr)
         && is_nothing(fields.tsi)

@@ -1,6 +1,6 @@
 //! Which lines are left.
 ghost use Rattle.std.specs.Prelude.{◌≡◌};
-ghost use Rattle.narrator.specs.Shown as spec;
+ghost use Rattle.narrator.specs.Filters as spec;
 ghost use Rattle.report_lines.specs.Reading.{seen_line, seen_what, seen_whose};
 
 use report_lines::{ReportLine, What, Whose};
@@ -47,7 +47,7 @@ fn is_of_purchase(purchase: Option<u64>, whose: &Whose<'_>, last_end: u64) -> bo
 
 /// Whether a line tells a power-up, an end, a balance or how many purchases ended.
 fn is_end(what: &What<'_>) -> bool
-    ensures { result ≡ spec.is_end (seen_what what.now) }
+    ensures { result ≡ spec.is_left_by_ends (seen_what what.now) }
 {
     match what {
         What::Power { .. } | What::PowerTorn(_) | What::PowerCanned(_) => true,
@@ -67,7 +67,7 @@ impl Filter {
     /// Whether a line is left. `last_end` is the number of the lane's last purchase that ended before the
     /// line, 0 where none has.
     pub fn shows(&self, line: &ReportLine<'_>, last_end: u64) -> bool
-        ensures { result ≡ spec.is_shown self.now (seen_line line.now) last_end }
+        ensures { result ≡ spec.is_left_by_filters self.now (seen_line line.now) last_end }
     {
         is_of_lane(self.lane, &line.whose)
             && is_of_purchase(self.purchase, &line.whose, last_end)

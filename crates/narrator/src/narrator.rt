@@ -1,26 +1,25 @@
 //! The teller of a report's lines.
 ghost use Rattle.std.specs.Prelude.{◌≡◌, ◌<◌, [], replicate, slice_get, OnOk, IfOk, option_map, unwrap_or};
-ghost use Rattle.power_words.specs.Cards.{power_words};
+ghost use Rattle.message_words.specs.Cards.{power_words};
 ghost use Rattle.narrator.specs.State as state;
 ghost use Rattle.narrator.specs.State.{seen_state};
-ghost use Rattle.narrator.specs.Shown.{shows_all};
+ghost use Rattle.narrator.specs.Filters.{shows_all};
 ghost use Rattle.narrator.specs.Words as spec;
 ghost use Rattle.narrator.specs.Words.{Narrates, is_text_left};
 ghost use Rattle.report_lines.specs.Bytes.{bytes_told};
 ghost use Rattle.report_lines.specs.Reading.{seen_ending, seen_fields, seen_line, seen_what, seen_whose};
-ghost use Rattle.word_lines.specs.Lines.{AreWordLines};
-ghost use Rattle.word_lines.specs.Pieces.{Tells};
+ghost use Rattle.report_lines.specs.Lines.{AreWordLines};
+ghost use Rattle.report_lines.specs.Pieces.{Tells};
 
 use crate::ending::tell_end;
 use crate::filter::Filter;
 use crate::past::LanePast;
 use crate::phrases::{CARD_GONE, NO_REPLY, POWER_CANNED, POWER_TORN, PURCHASE_LOST};
 use crate::report::tell_of_report;
-use lane_words::{Terminal, tell_torn};
-use power_words::{CardSeen, tell_power};
-use report_lines::{EndFields, Ending, ReportLine, What, Whose, bytes_of, read_line};
+use exchange_words::{Terminal, tell_torn};
+use message_words::{CardSeen, tell_power};
+use report_lines::{EndFields, Ending, ReportLine, What, Whose, WordLines, bytes_of, read_line};
 use std::alloc::{AllocError, Global};
-use word_lines::WordLines;
 
 /// The place where the audit's card is kept, behind the lanes.
 const AUDIT: u8 = 16;
@@ -114,7 +113,7 @@ impl Narrator {
     /// Tells a command.
     fn tell_sent(&mut self, place: u8, bytes: &[u8], out: &mut WordLines)
         ensures words { Tells out.old out.new (spec.at_past (spec.sent_words self.old.filter.brief self.old.terminals.items place bytes.now) (slice_get self.old.lanes.items place)) }
-        ensures state { seen_state self.new ≡ state.changed (state.asked self.old.terminals.items place bytes.now) (seen_state self.old) place }
+        ensures state { seen_state self.new ≡ state.state_changed (state.lane_asked self.old.terminals.items place bytes.now) (seen_state self.old) place }
         ensures manner { state.manner_of self.new ≡ state.manner_of self.old }
     {
         let brief = self.filter.brief;
@@ -127,7 +126,7 @@ impl Narrator {
     /// Tells an answer.
     fn tell_given(&mut self, place: u8, bytes: &[u8], out: &mut WordLines)
         ensures words { Tells out.old out.new (spec.at_past (spec.given_words self.old.filter.brief bytes.now) (slice_get self.old.lanes.items place)) }
-        ensures state { seen_state self.new ≡ state.changed (state.answered bytes.now) (seen_state self.old) place }
+        ensures state { seen_state self.new ≡ state.state_changed (state.lane_answered bytes.now) (seen_state self.old) place }
         ensures manner { state.manner_of self.new ≡ state.manner_of self.old }
     {
         let brief = self.filter.brief;
@@ -140,7 +139,7 @@ impl Narrator {
     /// Tells a reply of the issuer.
     fn tell_from_host(&mut self, place: u8, bytes: &[u8], out: &mut WordLines)
         ensures words { Tells out.old out.new (spec.at_past (λ _. spec.from_host_words self.old.filter.brief bytes.now) (slice_get self.old.lanes.items place)) }
-        ensures state { seen_state self.new ≡ state.changed (state.replied bytes.now) (seen_state self.old) place }
+        ensures state { seen_state self.new ≡ state.state_changed (state.lane_replied bytes.now) (seen_state self.old) place }
         ensures manner { state.manner_of self.new ≡ state.manner_of self.old }
     {
         let brief = self.filter.brief;
@@ -210,7 +209,7 @@ impl Narrator {
         fields: &EndFields<'_>,
         out: &mut WordLines,
     )
-        ensures { Tells out.old out.new (spec.end_at (slice_get self.now.lanes.items place) (seen_ending ending.now) (seen_fields fields.now) self.now.filter.brief) }
+        ensures { Tells out.old out.new (spec.lane_end_words (slice_get self.now.lanes.items place) (seen_ending ending.now) (seen_fields fields.now) self.now.filter.brief) }
     {
         if let Some(past) = self.lanes.get(usize::from(place)) {
             tell_end(out, &past.talk, ending, fields, self.filter.brief);
@@ -219,7 +218,7 @@ impl Narrator {
 
     /// Keeps the number of the purchase that ended.
     fn keep_end(&mut self, place: u8, number: u64)
-        ensures state { seen_state self.new ≡ state.changed (state.ended number) (seen_state self.old) place }
+        ensures state { seen_state self.new ≡ state.state_changed (state.lane_ended_purchase number) (seen_state self.old) place }
         ensures manner { state.manner_of self.new ≡ state.manner_of self.old }
     {
         match self.lanes.get_mut(usize::from(place)) {
@@ -230,7 +229,7 @@ impl Narrator {
 
     /// Forgets what the lane's last card gave.
     fn begin(&mut self, place: u8)
-        ensures state { seen_state self.new ≡ state.changed state.begun (seen_state self.old) place }
+        ensures state { seen_state self.new ≡ state.state_changed state.lane_begun (seen_state self.old) place }
         ensures manner { state.manner_of self.new ≡ state.manner_of self.old }
     {
         match self.lanes.get_mut(usize::from(place)) {
@@ -261,7 +260,7 @@ impl Narrator {
         out: &mut WordLines,
     ) -> Result<(), AllocError>
         ensures words { OnOk result (Tells out.old out.new (power_words self.old.cards.items card.now apps.now)) }
-        ensures state { OnOk result (seen_state self.new ≡ state.powered card.now apps.now (seen_state self.old) place) }
+        ensures state { OnOk result (seen_state self.new ≡ state.state_powered card.now apps.now (seen_state self.old) place) }
         ensures manner { state.manner_of self.new ≡ state.manner_of self.old }
     {
         self.begin(place);
@@ -271,7 +270,7 @@ impl Narrator {
     /// Tells a line of a lane or of the audit.
     fn tell_at(&mut self, place: u8, what: &What<'_>, out: &mut WordLines) -> Result<(), AllocError>
         ensures words { OnOk result (Tells out.old out.new (spec.at_lane (state.manner_of self.old) (seen_state self.old) place (seen_what what.now))) }
-        ensures state { OnOk result (seen_state self.new ≡ state.left_at (state.manner_of self.old) (seen_what what.now) (seen_state self.old) place) }
+        ensures state { OnOk result (seen_state self.new ≡ state.lane_left_by (state.manner_of self.old) (seen_what what.now) (seen_state self.old) place) }
         ensures manner { state.manner_of self.new ≡ state.manner_of self.old }
     {
         match what {
@@ -304,7 +303,7 @@ impl Narrator {
     /// Tells a message of the settlement.
     fn settle(&mut self, place: u8, bytes: &[u8], out: &mut WordLines)
         ensures words { Tells out.old out.new (spec.at_past (spec.to_host_words self.old.filter.brief bytes.now) (slice_get self.old.lanes.items place)) }
-        ensures state { seen_state self.new ≡ state.changed (state.settling bytes.now) (seen_state self.old) place }
+        ensures state { seen_state self.new ≡ state.state_changed (state.settling bytes.now) (seen_state self.old) place }
         ensures manner { state.manner_of self.new ≡ state.manner_of self.old }
     {
         let brief = self.filter.brief;
@@ -372,8 +371,8 @@ impl Narrator {
 
     /// Tells a line, and keeps what it leaves for the lines behind it.
     fn tell_line(&mut self, line: &ReportLine<'_>, out: &mut WordLines) -> Result<(), AllocError>
-        ensures words { OnOk result (Tells out.old out.new (spec.said (state.manner_of self.old) (seen_state self.old) (seen_line line.now))) }
-        ensures state { OnOk result (seen_state self.new ≡ state.left_by (state.manner_of self.old) (seen_line line.now) (seen_state self.old)) }
+        ensures words { OnOk result (Tells out.old out.new (spec.line_said (state.manner_of self.old) (seen_state self.old) (seen_line line.now))) }
+        ensures state { OnOk result (seen_state self.new ≡ state.state_left_by (state.manner_of self.old) (seen_line line.now) (seen_state self.old)) }
         ensures manner { state.manner_of self.new ≡ state.manner_of self.old }
     {
         match line.whose {

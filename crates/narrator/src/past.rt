@@ -2,13 +2,12 @@
 ghost use Rattle.std.specs.Prelude.{◌≡◌};
 ghost use Rattle.narrator.specs.State as state;
 ghost use Rattle.narrator.specs.Words as spec;
-ghost use Rattle.word_lines.specs.Pieces.{Tells};
+ghost use Rattle.report_lines.specs.Pieces.{Tells};
 
-use exchange_words::{first_fields, tell_answer, tell_command};
-use lane_words::{LaneState, Terminal, row_for};
+use exchange_words::{LaneState, Terminal, first_fields, row_for, tell_answer, tell_command};
 use message_words::{Settled, code_in, settled_by, tell_call, tell_reply};
+use report_lines::WordLines;
 use std::mem;
-use word_lines::WordLines;
 
 /// What the lines of a lane left.
 #[derive(Drop)]
@@ -35,7 +34,7 @@ impl LanePast {
 
     /// Forgets what the last card gave and was sent, as one is powered up.
     pub fn begin(&mut self)
-        ensures { self.new ≡ state.begun self.old }
+        ensures { self.new ≡ state.lane_begun self.old }
     {
         self.talk.begin();
     }
@@ -50,7 +49,7 @@ impl LanePast {
         out: &mut WordLines,
     )
         ensures words { Tells out.old out.new (spec.sent_words brief terminals.now place bytes.now self.old) }
-        ensures state { self.new ≡ state.asked terminals.now place bytes.now self.old }
+        ensures state { self.new ≡ state.lane_asked terminals.now place bytes.now self.old }
     {
         let row = row_for(terminals, place, self.talk.name.as_slice());
         tell_command(out, &mut self.talk, bytes, row, brief);
@@ -59,7 +58,7 @@ impl LanePast {
     /// Tells an answer to the last command, which waits for none any longer.
     pub fn tell_given(&mut self, bytes: &[u8], brief: bool, out: &mut WordLines)
         ensures words { Tells out.old out.new (spec.given_words brief bytes.now self.old) }
-        ensures state { self.new ≡ state.answered bytes.now self.old }
+        ensures state { self.new ≡ state.lane_answered bytes.now self.old }
     {
         let command = mem::take(&mut self.talk.command);
         tell_answer(out, &mut self.talk, command.as_slice(), bytes, brief);
@@ -75,7 +74,7 @@ impl LanePast {
     /// Tells a reply of the issuer, and keeps its response code.
     pub fn tell_from_host(&mut self, bytes: &[u8], brief: bool, out: &mut WordLines)
         ensures words { Tells out.old out.new (spec.from_host_words brief bytes.now) }
-        ensures state { self.new ≡ state.replied bytes.now self.old }
+        ensures state { self.new ≡ state.lane_replied bytes.now self.old }
     {
         self.talk.code = code_in(bytes);
         tell_reply(out, Settled::Nothing, bytes, brief);

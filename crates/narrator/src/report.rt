@@ -4,17 +4,16 @@ ghost use Rattle.narrator.specs.Words as spec;
 ghost use Rattle.narrator.specs.Endings as endings;
 ghost use Rattle.report_lines.specs.Bytes.{bytes_told};
 ghost use Rattle.report_lines.specs.Reading.{seen_what};
-ghost use Rattle.word_lines.specs.Pieces.{Tells};
+ghost use Rattle.report_lines.specs.Pieces.{Tells};
 
 use crate::digits::hex_number;
 use crate::ending::tell_break;
 use crate::phrases::{OR_MISSING, TRACE_DIFFERS};
 use ber_tlv::Tag;
-use explain_words::{REFUSALS, word_of};
 use object_words::{Object, Style, tell_object};
-use report_lines::{What, bytes_of};
+use report_lines::{What, WordLines, bytes_of};
 use std::alloc::{AllocError, Global};
-use word_lines::WordLines;
+use value_words::{REFUSALS, word_of};
 
 /// Tells an object that a card gave.
 fn tell_given_object(
@@ -72,7 +71,7 @@ pub(crate) fn tell_of_report(
     what: &What<'_>,
     brief: bool,
 ) -> Result<(), AllocError>
-    ensures { OnOk result (Tells out.old out.new (spec.of_report brief (seen_what what.now))) }
+    ensures { OnOk result (Tells out.old out.new (spec.report_words brief (seen_what what.now))) }
 {
     match what {
         What::Object { tag, value } => {

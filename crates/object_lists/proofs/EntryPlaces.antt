@@ -6,15 +6,15 @@ use Rattle.std.proofs.lemmas.List.{length-take, length-replicate, take_at, drop_
 use Rattle.emv_dict.specs.declared.dictionary.Format.{Format}
 use Rattle.emv_dict.specs.declared.dictionary.Format.TheVariants.{Numeric, Compressed, Text, Binary}
 use Rattle.env_map.specs.Entries.{Entries}
-use Rattle.object_lists.specs.DolEntries.{DolEntry, total_of, place_of}
+use Rattle.object_lists.specs.DolEntries.{DolEntry, total_of, data_place}
 use Rattle.object_lists.specs.EntryAt.{EntryAt}
-use Rattle.object_lists.specs.Filled.{cut, padded, fitted, data_of, known, entry_data, dol_data}
+use Rattle.object_lists.specs.Filled.{fitted_cut, padded, fitted, data_of, known, entry_data, dol_data}
 
-length-cut : (format : Format) (count : ℕ) (value : List ℕ) → count < length value → length (cut format count value) ≡ count
-length-cut Numeric count value long = length-drop (length value - count) value ∙ omega arith
-length-cut Compressed count value long = length-take count value ∙ omega arith
-length-cut Text count value long = length-take count value ∙ omega arith
-length-cut Binary count value long = length-take count value ∙ omega arith
+length-fitted_cut : (format : Format) (count : ℕ) (value : List ℕ) → count < length value → length (fitted_cut format count value) ≡ count
+length-fitted_cut Numeric count value long = length-drop (length value - count) value ∙ omega arith
+length-fitted_cut Compressed count value long = length-take count value ∙ omega arith
+length-fitted_cut Text count value long = length-take count value ∙ omega arith
+length-fitted_cut Binary count value long = length-take count value ∙ omega arith
 
 length-padded : (format : Format) (count : ℕ) (value : List ℕ) → length value ≤ count → length (padded format count value) ≡ count
 length-padded Numeric count value short = simp (length-append, length-replicate) (omega arith)
@@ -23,7 +23,7 @@ length-padded Text count value short = simp (length-append, length-replicate) (o
 length-padded Binary count value short = simp (length-append, length-replicate) (omega arith)
 
 length-fitted : (format : Format) (count : ℕ) (value : List ℕ) (long : Bool) → nat_lt count (length value) ≡ long → length (fitted format count value) ≡ count
-length-fitted format count value true test = rw test (length-cut format count value (grind (arith, nat_tests)))
+length-fitted format count value true test = rw test (length-fitted_cut format count value (grind (arith, nat_tests)))
 length-fitted format count value false test = rw test (length-padded format count value (grind (arith, nat_tests)))
 
 length-data_of : (count : ℕ) (found : Option (Format × List ℕ)) → length (data_of count found) ≡ count
@@ -56,7 +56,7 @@ data_there entries entry place at card terminal =
     ap (drop place) whole ∙ drop_at (dol_data at.front card terminal) (entry_data card terminal entry ++ behind) place (length-dol_data at.front card terminal ∙ at.wanted) in
     ap (take entry.count) from ∙ take_at (entry_data card terminal entry) behind entry.count (length-entry_data card terminal entry)
 
--- what `place_of` gives is where the first such entry is; none where there is no such entry
+-- what `data_place` gives is where the first such entry is; none where there is no such entry
 abbrev Found : DolEntry → List DolEntry → Option ℕ → Type 0
 Found entry entries None = AllByRecursion (λ other. other ≢ entry) entries
 Found entry entries (Some place) = EntryAt entries entry place
@@ -75,8 +75,8 @@ found_later entry first entries (Some place) other found =
     }
 
 found_at : (tag count : ℕ) (first : DolEntry) (entries : List DolEntry) (same_tag same_count : Bool) → (first.tag == tag) ≡ same_tag → (first.count == count) ≡ same_count
-    → Found (record { tag = tag; count = count }) entries (place_of tag count entries)
-    → Found (record { tag = tag; count = count }) (first ∷ entries) (if same_tag && same_count then Some 0 else option_map (λ n. first.count + n) (place_of tag count entries))
+    → Found (record { tag = tag; count = count }) entries (data_place tag count entries)
+    → Found (record { tag = tag; count = count }) (first ∷ entries) (if same_tag && same_count then Some 0 else option_map (λ n. first.count + n) (data_place tag count entries))
 found_at tag count first entries true true p q later =
     let tags : first.tag ≡ tag = grind arith in
     let counts : first.count ≡ count = grind arith in
@@ -84,34 +84,34 @@ found_at tag count first entries true true p q later =
     let same : first ≡ entry = ap (λ (t : ℕ). let e : DolEntry = record { tag = t; count = first.count } in e) tags ∙ ap (λ (n : ℕ). let e : DolEntry = record { tag = tag; count = n } in e) counts in
     record { front = []; behind = entries; splits = ap (λ (e : DolEntry). e ∷ entries) same; others = tt; wanted = refl }
 found_at tag count first entries true false p q later =
-    found_later (record { tag = tag; count = count }) first entries (place_of tag count entries)
+    found_later (record { tag = tag; count = count }) first entries (data_place tag count entries)
     (λ e. let counts : first.count ≡ count = ap (λ (x : DolEntry). x.count) e in grind arith) later
 found_at tag count first entries false same_count p q later =
-    found_later (record { tag = tag; count = count }) first entries (place_of tag count entries)
+    found_later (record { tag = tag; count = count }) first entries (data_place tag count entries)
     (λ e. let tags : first.tag ≡ tag = ap (λ (x : DolEntry). x.tag) e in grind arith) later
 
-place_of-found : (tag count : ℕ) (entries : List DolEntry) → Found (record { tag = tag; count = count }) entries (place_of tag count entries)
-place_of-found tag count [] = tt
-place_of-found tag count (first ∷ entries) =
-    found_at tag count first entries (first.tag == tag) (first.count == count) refl refl (place_of-found tag count entries)
+data_place-found : (tag count : ℕ) (entries : List DolEntry) → Found (record { tag = tag; count = count }) entries (data_place tag count entries)
+data_place-found tag count [] = tt
+data_place-found tag count (first ∷ entries) =
+    found_at tag count first entries (first.tag == tag) (first.count == count) refl refl (data_place-found tag count entries)
 
 -- the same of what was returned
-returned : (result : Option ℕ) (tag count : ℕ) (entries : List DolEntry) → result ≡ place_of tag count entries → Found (record { tag = tag; count = count }) entries result
+returned : (result : Option ℕ) (tag count : ℕ) (entries : List DolEntry) → result ≡ data_place tag count entries → Found (record { tag = tag; count = count }) entries result
 returned result tag count entries e =
     let P : Option ℕ → Type 0 = λ r. Found (record { tag = tag; count = count }) entries r in
-    subst P (sym e) (place_of-found tag count entries)
+    subst P (sym e) (data_place-found tag count entries)
 
-pub returned_place : (result : Option ℕ) (tag count : ℕ) (entries : List DolEntry) → result ≡ place_of tag count entries
+pub returned_place : (result : Option ℕ) (tag count : ℕ) (entries : List DolEntry) → result ≡ data_place tag count entries
     → IfSome result (EntryAt entries (record { tag = tag; count = count }))
 returned_place None tag count entries e = tt
 returned_place (Some place) tag count entries e = returned (Some place) tag count entries e
 
-pub returned_none : (result : Option ℕ) (tag count : ℕ) (entries : List DolEntry) → result ≡ place_of tag count entries
+pub returned_none : (result : Option ℕ) (tag count : ℕ) (entries : List DolEntry) → result ≡ data_place tag count entries
     → IfNone result (AllByRecursion (λ other. other ≢ record { tag = tag; count = count }) entries)
 returned_none None tag count entries e = returned None tag count entries e
 returned_none (Some place) tag count entries e = tt
 
-pub returned_data : (result : Option ℕ) (tag count : ℕ) (entries : List DolEntry) → result ≡ place_of tag count entries
+pub returned_data : (result : Option ℕ) (tag count : ℕ) (entries : List DolEntry) → result ≡ data_place tag count entries
     → IfSome result (λ place. (card terminal : Entries) → take count (drop place (dol_data entries card terminal)) ≡ entry_data card terminal (record { tag = tag; count = count }))
 returned_data None tag count entries e = tt
 returned_data (Some place) tag count entries e = data_there entries (record { tag = tag; count = count }) place (returned (Some place) tag count entries e)

@@ -20,8 +20,8 @@ pub record IsRead (card : ReadCard) : Type 0 where
   pub digits : option_and_then (λ field. result_ok (pan_of field)) (value_of 0x5A card.entries) ≡ Some card.pan
 
 -- what these objects make
-abbrev pub card_of : Entries → ReadCard
-card_of entries = record {
+abbrev pub card_of_objects : Entries → ReadCard
+card_of_objects entries = record {
   entries = entries;
   aip = unwrap_or (value_of 0x82 entries) [];
   pan = unwrap_or (option_and_then (λ field. result_ok (pan_of field)) (value_of 0x5A entries)) [];

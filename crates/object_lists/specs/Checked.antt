@@ -5,7 +5,7 @@ use Rattle.std.specs.Option.{option_or}
 use Rattle.emv_dict.specs.declared.ending.Cause.{Cause}
 use Rattle.emv_dict.specs.declared.ending.Cause.TheVariants.{Missing, Value, Dol}
 use Rattle.env_map.specs.Entries.{Entries, value_of}
-use Rattle.object_lists.specs.Forms.{Has, has_count, has_any_form, is_account_number, is_day, is_code_value, is_two_digits, is_object_list, is_verification_list}
+use Rattle.object_lists.specs.Forms.{Has, has_count, has_any_form, is_account_number, is_date_value, is_code_value, is_two_digits, is_object_list, is_verification_list}
 use Rattle.object_lists.specs.declared.checked.Check.{Check}
 use Rattle.object_lists.specs.declared.checked.Check.TheVariants.{AccountNumber, Day, Code, TwoDigits, ObjectList, VerificationList, Bytes}
 
@@ -32,7 +32,7 @@ checked =
 
 abbrev pub form_of : Check → List ℕ → Bool
 form_of AccountNumber = is_account_number
-form_of Day = is_day
+form_of Day = is_date_value
 form_of Code = is_code_value
 form_of TwoDigits = is_two_digits
 form_of ObjectList = is_object_list

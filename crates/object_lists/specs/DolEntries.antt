@@ -19,17 +19,17 @@ fault_of_tag (tlv.BadLength place) = Truncated place
 fault_of_tag (tlv.LongTag place) = LongTag place
 
 -- the length byte behind a tag
-abbrev pub entry_of : ℕ → ℕ × ℕ → Option ℕ → Result (DolEntry × ℕ) DolFault
-entry_of start tag (Some count) = Ok (record { tag = tag.0; count = count }, tag.1 + 1)
-entry_of start tag None = Err (Truncated start)
+abbrev pub dol_entry_with : ℕ → ℕ × ℕ → Option ℕ → Result (DolEntry × ℕ) DolFault
+dol_entry_with start tag (Some count) = Ok (record { tag = tag.0; count = count }, tag.1 + 1)
+dol_entry_with start tag None = Err (Truncated start)
 
 -- the entry that begins at a place, and the place behind it
 abbrev pub with_count : List ℕ → ℕ → Result (ℕ × ℕ) TlvFault → Result (DolEntry × ℕ) DolFault
-with_count bytes start (Ok tag) = entry_of start tag (slice_get bytes tag.1)
+with_count bytes start (Ok tag) = dol_entry_with start tag (slice_get bytes tag.1)
 with_count bytes start (Err fault) = Err (fault_of_tag fault)
 
-unfoldable pub entry_at : List ℕ → ℕ → Result (DolEntry × ℕ) DolFault
-entry_at bytes start = with_count bytes start (tag_at bytes start)
+unfoldable pub dol_entry_at : List ℕ → ℕ → Result (DolEntry × ℕ) DolFault
+dol_entry_at bytes start = with_count bytes start (tag_at bytes start)
 
 -- one entry, and those behind it
 abbrev pub then_entries : DolEntry → Result (List DolEntry) DolFault → Result (List DolEntry) DolFault
@@ -45,7 +45,7 @@ then_behind (Err fault) behind = Err fault
 unfoldable pub entries_from : ℕ → List ℕ → ℕ → Result (List DolEntry) DolFault
 entries_from zero bytes place = Ok []
 entries_from (suc count) bytes place =
-    if place == length bytes then Ok [] else then_behind (entry_at bytes place) (entries_from count bytes)
+    if place == length bytes then Ok [] else then_behind (dol_entry_at bytes place) (entries_from count bytes)
 
 -- the entries from a place to the end, or the first fault
 unfoldable pub entries_behind : List ℕ → ℕ → Result (List DolEntry) DolFault
@@ -61,7 +61,7 @@ total_of [] = 0
 total_of (entry ∷ entries) = entry.count + total_of entries
 
 -- where the data of the first entry with this tag and length begins
-abbrev pub place_of : ℕ → ℕ → List DolEntry → Option ℕ
-place_of tag count [] = None
-place_of tag count (entry ∷ entries) =
-    if (entry.tag == tag) && (entry.count == count) then Some 0 else option_map (λ place. entry.count + place) (place_of tag count entries)
+abbrev pub data_place : ℕ → ℕ → List DolEntry → Option ℕ
+data_place tag count [] = None
+data_place tag count (entry ∷ entries) =
+    if (entry.tag == tag) && (entry.count == count) then Some 0 else option_map (λ place. entry.count + place) (data_place tag count entries)

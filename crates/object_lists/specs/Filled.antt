@@ -16,11 +16,11 @@ source Terminal card terminal = terminal
 source Issuer card terminal = terminal
 
 -- a value too long for its place: cut on the left if numeric, else on the right
-abbrev pub cut : Format → ℕ → List ℕ → List ℕ
-cut Numeric count value = drop (length value - count) value
-cut Compressed count value = take count value
-cut Text count value = take count value
-cut Binary count value = take count value
+abbrev pub fitted_cut : Format → ℕ → List ℕ → List ℕ
+fitted_cut Numeric count value = drop (length value - count) value
+fitted_cut Compressed count value = take count value
+fitted_cut Text count value = take count value
+fitted_cut Binary count value = take count value
 
 -- a value too short, or of the right length: filled on the left with 00 if numeric, on the right
 -- with FF if compressed numeric, else on the right with 00
@@ -31,7 +31,7 @@ padded Text count value = value ++ replicate (count - length value) 0
 padded Binary count value = value ++ replicate (count - length value) 0
 
 abbrev pub fitted : Format → ℕ → List ℕ → List ℕ
-fitted format count value = if nat_lt count (length value) then cut format count value else padded format count value
+fitted format count value = if nat_lt count (length value) then fitted_cut format count value else padded format count value
 
 -- the format and the value of an object that the dictionary has, that is not constructed and that
 -- has a value

@@ -12,8 +12,8 @@ abbrev pub is_account_number : List ℕ → Bool
 is_account_number value = is_ok (pan_of value)
 
 -- year, month and day, two digits a byte
-abbrev pub is_day : List ℕ → Bool
-is_day value = length value == 3 && is_some (date_of value)
+abbrev pub is_date_value : List ℕ → Bool
+is_date_value value = length value == 3 && is_some (date_of value)
 
 -- the code of a country or of a currency: two bytes of digits, the first digit 0
 abbrev pub is_code_value : List ℕ → Bool
@@ -53,8 +53,8 @@ pub record HasForms (entries : Entries) : Type 0 where
   pub interchange_profile : Has 0x82 (has_count 2) entries
   pub file_locator : Has 0x94 has_any_form entries
   pub account_number : Has 0x5A is_account_number entries
-  pub expiration_date : Has 0x5F24 is_day entries
-  pub effective_date : HasIfThere 0x5F25 is_day entries
+  pub expiration_date : Has 0x5F24 is_date_value entries
+  pub effective_date : HasIfThere 0x5F25 is_date_value entries
   pub issuer_country : HasIfThere 0x5F28 is_code_value entries
   pub sequence_number : HasIfThere 0x5F34 is_two_digits entries
   pub first_list : Has 0x8C is_object_list entries

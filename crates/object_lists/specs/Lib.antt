@@ -6,5 +6,5 @@ pub mod DolSpelled
 pub mod EntryAt
 pub mod Filled
 pub mod Forms
-pub mod Given
+pub mod CardObjects
 pub mod SeenRow

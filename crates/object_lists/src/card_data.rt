@@ -2,7 +2,7 @@ ghost use Rattle.std.specs.Prelude.{◌≡◌, ◌↔◌, Some, IsSome, IfSome, 
 ghost use Rattle.std.specs.Result.{result_ok};
 ghost use Rattle.emv_dict.specs.Pan.{pan_of};
 ghost use Rattle.env_map.specs.Entries.{value_of};
-ghost use Rattle.object_lists.specs.CardRead.{IsRead, card_of};
+ghost use Rattle.object_lists.specs.CardRead.{IsRead, card_of_objects};
 ghost use Rattle.object_lists.specs.Forms.{HasForms};
 
 use crate::checked::{has_options, objects_fault};
@@ -35,7 +35,7 @@ impl Model for CardData {
 impl CardData {
     /// What these objects make, where they are those of a finished reading.
     pub fn checked(env: Env) -> Option<CardData>
-        ensures card { IfSome result (λ card. card ≡ card_of env) }
+        ensures card { IfSome result (λ card. card ≡ card_of_objects env) }
         ensures read { IsSome result ↔ HasForms env }
     {
         if !has_options(&env) {
@@ -50,7 +50,7 @@ impl CardData {
     /// What these objects make.
     pub fn new(env: Env) -> CardData
         requires { HasForms env }
-        ensures card { result ≡ card_of env }
+        ensures card { result ≡ card_of_objects env }
         ensures read { IsRead result }
     {
         let (aip, pan) = named_data(&env);
@@ -60,7 +60,7 @@ impl CardData {
     /// Makes of these data what the objects make, in their place.
     pub fn refill(&mut self, objects: &Env)
         requires { HasForms objects.now }
-        ensures { self.new ≡ card_of objects.now }
+        ensures { self.new ≡ card_of_objects objects.now }
     {
         let (aip, pan) = named_data(objects);
         self.aip = aip;

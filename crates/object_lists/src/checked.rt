@@ -1,7 +1,7 @@
 //! The objects that a terminal tries once the records are read (EMV 4.3 Book 3 section 7.2, Annex A).
 ghost use Rattle.std.specs.Prelude.{◌≡◌, ◌↔◌, IsTrue, None, map, option_map};
 ghost use Rattle.env_map.specs.Entries.{Entries};
-ghost use Rattle.object_lists.specs.Forms.{HasForms, is_day as day_test, is_code_value as code_test, is_two_digits as digits_test, is_object_list as list_test, is_verification_list as verification_test};
+ghost use Rattle.object_lists.specs.Forms.{HasForms, is_date_value as day_test, is_code_value as code_test, is_two_digits as digits_test, is_object_list as list_test, is_verification_list as verification_test};
 ghost use Rattle.object_lists.specs.Checked.{HasOptions, objects_fault, first_wrong, missing_from, form_of, passes_if_there, wrong_cause};
 ghost use Rattle.object_lists.specs.Checked as spec;
 ghost use Rattle.object_lists.specs.SeenRow.{seen_row};

@@ -1,9 +1,9 @@
 ghost use Rattle.std.specs.Prelude.{◌≡◌, ◌≢◌, ◌+◌, ◌≤◌, [], length, take, drop, Ok, Err, IfOk, IfErr, IfSome, IfNone, MatchResult};
 ghost use Rattle.std.specs.List.{AllByRecursion};
 ghost use Rattle.env_map.specs.Entries.{Entries};
-ghost use Rattle.object_lists.specs.DolEntries.{DolEntry, dol_of, total_of, place_of};
+ghost use Rattle.object_lists.specs.DolEntries.{DolEntry, dol_of, total_of, data_place};
 ghost use Rattle.object_lists.specs.DolEntries as spec;
-ghost use Rattle.object_lists.specs.DolSeen.{seen, all_seen};
+ghost use Rattle.object_lists.specs.DolSeen.{seen_dol_entry, all_seen};
 ghost use Rattle.object_lists.specs.EntryAt.{EntryAt};
 ghost use Rattle.object_lists.specs.Filled.{dol_data, entry_data};
 ghost use Rattle.object_lists.specs.DolSpelled.{dol_bytes, SpelledEntry, StopsEntry, FaultBehindEntries};
@@ -81,12 +81,12 @@ pub fn read_dol(bytes: &[u8]) -> Result<Dol, DolFault>
 }
 
 /// The entry that begins at a place, and the place behind it.
-#[tactic(auto, unfolding(crate::specs::DolEntries::entry_at))]
+#[tactic(auto, unfolding(crate::specs::DolEntries::dol_entry_at))]
 fn entry_at(bytes: &[u8], start: usize) -> Result<(Entry, usize), DolFault>
     ensures exact { MatchResult result
-        (λ found. spec.entry_at bytes.now start ≡ Ok (seen found.0, found.1))
-        (λ fault. spec.entry_at bytes.now start ≡ Err fault) }
-    ensures spelled { IfOk result (λ found. SpelledEntry bytes.now start (seen found.0) found.1) }
+        (λ found. spec.dol_entry_at bytes.now start ≡ Ok (seen_dol_entry found.0, found.1))
+        (λ fault. spec.dol_entry_at bytes.now start ≡ Err fault) }
+    ensures spelled { IfOk result (λ found. SpelledEntry bytes.now start (seen_dol_entry found.0) found.1) }
     ensures stops { IfErr result (λ fault. StopsEntry fault start (drop start bytes.now)) }
     ensures onward { IfOk result (λ found. (start + 2 ≤ found.1) × (found.1 ≤ length bytes.now)) }
 {
@@ -129,7 +129,7 @@ fn total_among(entries: &[Entry]) -> u32
 
 /// Where the data of the first entry with this tag and length begins in the filled data.
 pub fn place(dol: &Dol, tag: Tag, len: u8) -> Option<usize>
-    ensures place { result ≡ place_of tag.0 len dol.now }
+    ensures place { result ≡ data_place tag.0 len dol.now }
     ensures found { IfSome result (EntryAt dol.now (record { tag = tag.0; count = len })) }
     ensures none { IfNone result (AllByRecursion (λ entry. entry ≢ record { tag = tag.0; count = len }) dol.now) }
     // Whatever the maps have, the filled data have that entry's data there.
@@ -142,7 +142,7 @@ pub fn place(dol: &Dol, tag: Tag, len: u8) -> Option<usize>
 
 fn place_among(entries: &[Entry], tag: Tag, len: u8) -> Option<usize>
     requires { length entries.now ≤ 127 }
-    ensures { result ≡ place_of tag.0 len (all_seen entries.now) }
+    ensures { result ≡ data_place tag.0 len (all_seen entries.now) }
 {
     let mut place = 0;
     for entry in entries {

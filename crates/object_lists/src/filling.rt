@@ -1,8 +1,8 @@
 ghost use Rattle.std.specs.Prelude.{◌≡◌, ◌+◌, ◌<◌, ◌≤◌, ◌↔◌, [], ◌++◌, length, replicate, option_map, IsErr, OnOk, OnErr, IfErr};
 ghost use Rattle.object_lists.specs.DolEntries.{total_of};
-ghost use Rattle.object_lists.specs.DolSeen.{seen, all_seen};
+ghost use Rattle.object_lists.specs.DolSeen.{seen_dol_entry, all_seen};
 ghost use Rattle.object_lists.specs.Filled.{dol_data, entry_data, fitted, known};
-ghost use Rattle.object_lists.specs.Given.{entries_given};
+ghost use Rattle.object_lists.specs.CardObjects.{entries_given};
 ghost use Rattle.object_lists.specs.Filled as spec;
 
 use crate::dol::{Dol, Entry, total};
@@ -76,7 +76,7 @@ fn append_all(out: &mut ArrayVec<u8, 252>, entries: &[Entry], card: Option<&Env>
 
 fn append_entry(out: &mut ArrayVec<u8, 252>, entry: &Entry, card: Option<&Env>, terminal: &Env)
     requires { length out.old.items + entry.now.count ≤ 252 }
-    ensures filled { out.new.items ≡ out.old.items ++ entry_data (entries_given (option_map (λ env. env.now) card.entry)) terminal.now (seen entry.now) }
+    ensures filled { out.new.items ≡ out.old.items ++ entry_data (entries_given (option_map (λ env. env.now) card.entry)) terminal.now (seen_dol_entry entry.now) }
     ensures len { length out.new.items ≡ length out.old.items + entry.now.count }
 {
     let count = usize::from(entry.count);
@@ -131,7 +131,7 @@ fn append_fitted(out: &mut ArrayVec<u8, 252>, format: Format, count: usize, valu
 /// The rightmost bytes of a numeric value, the leftmost of another.
 fn cut(format: Format, count: usize, value: &[u8]) -> &[u8]
     requires { count ≤ length value.now }
-    ensures filled { result.now ≡ spec.cut format count value.now }
+    ensures filled { result.now ≡ spec.fitted_cut format count value.now }
     ensures len { length result.now ≡ count }
 {
     match format {

@@ -2,7 +2,7 @@
 use Rattle.std.proofs.Common.{◌≡◌, ℕ, ◌+◌, ◌<◌, ◌≤◌, List, [], ◌++◌, length, get_or, drop, ap}
 use Rattle.std.proofs.lemmas.List.{drop_all}
 use Rattle.object_words.specs.Bits.{bit_numbers_from, byte_bits, bit_words_from, byte_words}
-use Rattle.list_words.proofs.Places.{from_place}
+use Rattle.value_words.proofs.Places.{from_place}
 
 pub numbers_next : (value : List ℕ) (place : ℕ) → place < length value
     → bit_numbers_from (place + 1) (drop place value) ≡ byte_bits (place + 1) (get_or value place 0) ++ bit_numbers_from (place + 1 + 1) (drop (place + 1) value)

@@ -2,19 +2,19 @@
 use Rattle.std.proofs.Common.{◌≡◌, ℕ, zero, suc, ◌+◌, ◌-◌, ◌<◌, List, [], ◌∷◌, length, Option, Some, None, Result, Ok, Err, slice_get, IfSome, IfNone, refl, arith, sym, ap, ◌∙◌}
 use Rattle.std.proofs.lemmas.Option.{slice_get_past}
 use Rattle.ber_tlv.specs.Item.{ItemData, item_at}
-use Rattle.ber_tlv.specs.Items.{Zeros, Begins, NextItem, NextFault}
+use Rattle.ber_tlv.specs.Items.{Zeros, HasObjectAt, NextItem, NextFault}
 use Rattle.ber_tlv.specs.declared.item.TlvFault.{TlvFault}
 use Rattle.ber_tlv.proofs.ItemBounds.{item_at-lies}
 use Rattle.ber_tlv.specs.Seen.{seen}
 use Rattle.ber_tlv.specs.declared.item.Item.{Item}
-use Rattle.object_words.specs.Leading.{then_leading, with_item, by_byte, leading_from, leading_behind}
+use Rattle.object_words.specs.Leading.{then_leading, with_item, items_by_byte, leading_from, leading_behind}
 
 with_item-same : (found : Result (ItemData × ℕ) TlvFault) (f g : ℕ → List ItemData) → ((a : ItemData × ℕ) → found ≡ Ok a → f a.1 ≡ g a.1) → with_item found f ≡ with_item found g
 with_item-same (Ok found) f g same = ap (λ (items : List ItemData). found.0 ∷ items) (same found refl)
 with_item-same (Err fault) f g same = refl
 
-by_byte-same : (byte : Option ℕ) (p q u v : List ItemData) → p ≡ q → u ≡ v → by_byte byte p u ≡ by_byte byte q v
-by_byte-same byte p q u v e f = cc
+items_by_byte-same : (byte : Option ℕ) (p q u v : List ItemData) → p ≡ q → u ≡ v → items_by_byte byte p u ≡ items_by_byte byte q v
+items_by_byte-same byte p q u v e f = cc
 
 -- a larger count changes nothing
 leading_from-count : (c d : ℕ) (bytes : List ℕ) (place : ℕ) → length bytes < place + c → length bytes < place + d → leading_from c bytes place ≡ leading_from d bytes place
@@ -23,14 +23,14 @@ leading_from-count zero zero bytes place p q = refl
 leading_from-count zero (suc d) bytes place p q = rw (slice_get_past bytes place (omega arith)) refl
 leading_from-count (suc c) zero bytes place p q = rw (slice_get_past bytes place (omega arith)) refl
 leading_from-count (suc c) (suc d) bytes place p q =
-    by_byte-same (slice_get bytes place) _ _ _ _
+    items_by_byte-same (slice_get bytes place) _ _ _ _
     (leading_from-count c d bytes (place + 1) (omega arith) (omega arith))
     (with_item-same (item_at bytes place) _ _ (λ found stands.
     let lies = item_at-lies bytes place found.0 found.1 stands in
     leading_from-count c d bytes found.1 (omega arith) (omega arith)))
 
-by_byte-begins : (byte : ℕ) (p o : List ItemData) → 0 < byte → by_byte (Some byte) p o ≡ o
-by_byte-begins byte p o positive = grind arith
+items_by_byte-begins : (byte : ℕ) (p o : List ItemData) → 0 < byte → items_by_byte (Some byte) p o ≡ o
+items_by_byte-begins byte p o positive = grind arith
 
 leading_behind-padding : (bytes : List ℕ) (place : ℕ) → slice_get bytes place ≡ Some 0 → leading_behind bytes place ≡ leading_behind bytes (place + 1)
 unfolding leading_behind leading_from
@@ -48,10 +48,10 @@ leading_behind-zeros (suc count) bytes place start e zeros =
 behind-zeros : (bytes : List ℕ) (place start : ℕ) → Zeros bytes place start → leading_behind bytes place ≡ leading_behind bytes start
 behind-zeros bytes place start zeros = leading_behind-zeros (start - place) bytes place start (omega arith) zeros
 
-behind-begins : (bytes : List ℕ) (start : ℕ) → Begins bytes start → leading_behind bytes start ≡ with_item (item_at bytes start) (leading_behind bytes)
+behind-begins : (bytes : List ℕ) (start : ℕ) → HasObjectAt bytes start → leading_behind bytes start ≡ with_item (item_at bytes start) (leading_behind bytes)
 unfolding leading_behind leading_from
 behind-begins bytes start begins =
-    rw begins.there (by_byte-begins begins.byte _ _ begins.not_zero
+    rw begins.there (items_by_byte-begins begins.byte _ _ begins.not_zero
     ∙ with_item-same (item_at bytes start) _ _ (λ found stands.
     let lies = item_at-lies bytes start found.0 found.1 stands in
     leading_from-count (length bytes) (suc (length bytes)) bytes found.1 (omega arith) (omega arith)))

@@ -1,10 +1,10 @@
 -- Values that are bits, in words.
 use Rattle.std.specs.Prelude.{ℕ, ◌+◌, ◌-◌, ◌*◌, ◌==◌, true, not, if◌then◌else◌, List, [], ◌∷◌, ◌++◌, length, slice_index, codes, Option, Some, None}
 use Rattle.std.specs.List.{list_any}
-use Rattle.word_lines.specs.Pieces.{Piece, text, number, hex, word_or}
-use Rattle.word_lines.specs.Bits.{bits_from}
-use Rattle.explain_words.specs.Words.{word_in}
-use Rattle.list_words.specs.Plain.{hex_words, told_if}
+use Rattle.report_lines.specs.Pieces.{Piece, text, number, hex, word_or}
+use Rattle.report_lines.specs.Bits.{bits_told_from}
+use Rattle.value_words.specs.Words.{word_in}
+use Rattle.value_words.specs.Plain.{hex_words, told_if}
 
 -- a bit as BYTE.BIT, by its place in its byte from 0 at the left
 abbrev pub bit_number : ℕ → ℕ → List Piece
@@ -12,7 +12,7 @@ bit_number byte_number place = number byte_number ++ text (codes ".") ++ number 
 
 -- the bits of a byte that are set, each behind a blank
 abbrev pub byte_bits : ℕ → ℕ → List Piece
-byte_bits byte_number byte = bits_from 8 (text (codes " ")) (bit_number byte_number) byte true 0 8
+byte_bits byte_number byte = bits_told_from 8 (text (codes " ")) (bit_number byte_number) byte true 0 8
 
 -- the same of bytes that count from this number
 abbrev pub bit_numbers_from : ℕ → List ℕ → List Piece
@@ -35,7 +35,7 @@ word_at table byte_number place = bit_word table byte_number (8 - place)
 
 -- the words of a byte's bits that are set, each behind a comma
 abbrev pub byte_words : List (ℕ × List ℕ) → ℕ → ℕ → List Piece
-byte_words table byte_number byte = bits_from 8 (text (codes ", ")) (word_at table byte_number) byte true 0 8
+byte_words table byte_number byte = bits_told_from 8 (text (codes ", ")) (word_at table byte_number) byte true 0 8
 
 abbrev pub bit_words_from : List (ℕ × List ℕ) → ℕ → List ℕ → List Piece
 bit_words_from table byte_number [] = []
@@ -45,8 +45,8 @@ abbrev pub bit_words : List (ℕ × List ℕ) → List ℕ → List Piece
 bit_words table value = bit_words_from table 1 value
 
 -- so many bytes, and the words of their bits
-abbrev pub flags_words : List (ℕ × List ℕ) → ℕ → List ℕ → Option (List Piece)
-flags_words table count value = told_if (length value == count) (hex value ++ bit_words table value)
+abbrev pub table_flags_words : List (ℕ × List ℕ) → ℕ → List ℕ → Option (List Piece)
+table_flags_words table count value = told_if (length value == count) (hex value ++ bit_words table value)
 
 abbrev pub behind_comma : Option (List ℕ) → List Piece
 behind_comma None = []

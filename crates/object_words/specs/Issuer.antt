@@ -1,11 +1,11 @@
 -- Values that the issuer gives or reads, in words.
 use Rattle.std.specs.Prelude.{ℕ, ◌+◌, ◌*◌, ◌/◌, ◌%◌, ◌==◌, Bool, ◌&&◌, nat_le, if◌then◌else◌, List, [], ◌∷◌, ◌++◌, length, map, slice_index, take, drop, bit_and, codes, Option, Some, None}
-use Rattle.word_lines.specs.Pieces.{Piece, text, number, hex, word_or}
-use Rattle.explain_words.specs.Words.{word_in}
-use Rattle.explain_words.specs.declared.bits.TheConstants.{UPDATE_BITS}
-use Rattle.explain_words.specs.declared.codes.TheConstants.{CRYPTOGRAMS, RESPONSES}
+use Rattle.report_lines.specs.Pieces.{Piece, text, number, hex, word_or}
+use Rattle.value_words.specs.Words.{word_in}
+use Rattle.value_words.specs.declared.bits.TheConstants.{UPDATE_BITS}
+use Rattle.value_words.specs.declared.codes.TheConstants.{CRYPTOGRAMS, RESPONSES}
 use Rattle.object_words.specs.Bits.{behind_comma, bit_words}
-use Rattle.list_words.specs.Plain.{told_if}
+use Rattle.value_words.specs.Plain.{told_if}
 use Rattle.object_words.specs.declared.phrases.TheConstants.{STATUS_UPDATE, REFUSED, OFFLINE_APPROVALS, PIN_TRIES, APPLICATION_BLOCKED, AUTHENTICATION_FAILED, RESPONSE_CRYPTOGRAM}
 
 -- the kind of cryptogram of a byte's two high bits, behind a comma (EMV 4.3 Book 3 section 6.5.5.4)
@@ -43,9 +43,9 @@ answer_words code approved =
     else if code == 0x3035 then text REFUSED.now
     else response_words code
 
-abbrev pub code_words : ℕ → Option (List ℕ) → List Piece
-code_words code None = response_words code
-code_words code (Some approved) = answer_words code approved
+abbrev pub issuer_code_words : ℕ → Option (List ℕ) → List Piece
+issuer_code_words code None = response_words code
+issuer_code_words code (Some approved) = answer_words code approved
 
 -- a character of a response code
 abbrev pub is_code_character : ℕ → Bool
@@ -55,7 +55,7 @@ is_code_character byte = nat_le 33 byte && nat_le byte 126
 abbrev pub response_code_words : List ℕ → Option (List ℕ) → Option (List Piece)
 response_code_words value approved =
     told_if (length value == 2 && (is_code_character (slice_index value 0) && is_code_character (slice_index value 1)))
-    (text value ++ text (codes ", ") ++ code_words (slice_index value 0 * 256 + slice_index value 1) approved)
+    (text value ++ text (codes ", ") ++ issuer_code_words (slice_index value 0 * 256 + slice_index value 1) approved)
 
 -- the kind in the two high bits of a byte of issuer application data, behind a comma
 abbrev pub data_kind : ℕ → List ℕ

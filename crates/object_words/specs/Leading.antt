@@ -10,15 +10,15 @@ with_item (Ok found) more = found.0 ∷ more found.1
 with_item (Err fault) more = []
 
 -- nothing at the end, else what a byte 00 or what an object leaves
-abbrev pub by_byte : Option ℕ → List ItemData → List ItemData → List ItemData
-by_byte None padding object = []
-by_byte (Some byte) padding object = (if byte == 0 then padding else object)
+abbrev pub items_by_byte : Option ℕ → List ItemData → List ItemData → List ItemData
+items_by_byte None padding object = []
+items_by_byte (Some byte) padding object = (if byte == 0 then padding else object)
 
 -- the objects from a place on; `count` is more than the number of bytes that are left
 unfoldable pub leading_from : ℕ → List ℕ → ℕ → List ItemData
 leading_from zero bytes place = []
 leading_from (suc count) bytes place =
-    by_byte (slice_get bytes place) (leading_from count bytes (place + 1)) (with_item (item_at bytes place) (leading_from count bytes))
+    items_by_byte (slice_get bytes place) (leading_from count bytes (place + 1)) (with_item (item_at bytes place) (leading_from count bytes))
 
 unfoldable pub leading_behind : List ℕ → ℕ → List ItemData
 leading_behind bytes place = leading_from (suc (length bytes)) bytes place

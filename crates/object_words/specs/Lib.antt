@@ -1,5 +1,6 @@
 pub mod Bits
 pub mod Commands
+pub mod Fields
 pub mod Issuer
 pub mod Leading
 pub mod Objects

@@ -1,24 +1,24 @@
 -- Data objects in words, and objects within objects (EMV 4.3 Book 3 Annex B).
 use Rattle.std.specs.Prelude.{ℕ, zero, suc, ◌+◌, ◌==◌, Bool, ◌&&◌, ◌||◌, not, nat_lt, if◌then◌else◌, min, List, [], ◌++◌, length, map, codes, Option, Some, None, option_map, is_none, unwrap_or}
 use Rattle.std.specs.List.{flat_map}
-use Rattle.word_lines.specs.Pieces.{Piece, line, text, hex}
+use Rattle.report_lines.specs.Pieces.{Piece, line, text, hex}
 use Rattle.ber_tlv.specs.Item.{ItemData}
 use Rattle.ber_tlv.specs.Left.{items_of, fault_of}
 use Rattle.ber_tlv.specs.Tag.{names_template}
 use Rattle.ber_tlv.specs.Written.{tag_bytes}
-use Rattle.explain_words.specs.Words.{name_in}
-use Rattle.explain_words.specs.declared.bits.TheConstants.{CAPABILITY_BITS, INTERCHANGE_BITS, STATUS_BITS, USAGE_BITS}
-use Rattle.explain_words.specs.declared.codes.TheConstants.{TERMINAL_TYPES, TRADES}
-use Rattle.explain_words.specs.declared.names.Form.{Form}
-use Rattle.explain_words.specs.declared.names.Form.TheVariants as form
-use Rattle.explain_words.specs.declared.names.TheConstants.{NAMES}
-use Rattle.object_words.specs.Bits.{bit_numbers, bits_words, flags_words, coded_words}
+use Rattle.value_words.specs.Words.{tag_name_in}
+use Rattle.value_words.specs.declared.bits.TheConstants.{CAPABILITY_BITS, INTERCHANGE_BITS, STATUS_BITS, USAGE_BITS}
+use Rattle.value_words.specs.declared.codes.TheConstants.{TERMINAL_TYPES, TRADES}
+use Rattle.value_words.specs.declared.names.Form.{Form}
+use Rattle.value_words.specs.declared.names.Form.TheVariants as form
+use Rattle.value_words.specs.declared.names.TheConstants.{NAMES}
+use Rattle.object_words.specs.Bits.{bit_numbers, bits_words, table_flags_words, coded_words}
 use Rattle.object_words.specs.Commands.{command_words}
-use Rattle.list_words.specs.Digits.{digits_words}
+use Rattle.value_words.specs.Digits.{digits_words}
 use Rattle.object_words.specs.Issuer.{information_words, issuer_data_words, authentication_words, response_code_words}
 use Rattle.object_words.specs.Leading.{leading_items}
-use Rattle.list_words.specs.Lists.{list_words, locator_words, methods_words, method_result_words}
-use Rattle.list_words.specs.Plain.{number_in, hex_words, told_if, text_words, number_words, amount_words, code_words, date_words, time_words, log_entry_words, priority_words}
+use Rattle.value_words.specs.Lists.{list_words, locator_words, methods_words, method_result_words}
+use Rattle.value_words.specs.Plain.{binary_number, hex_words, told_if, text_words, number_words, amount_words, three_digits_words, date_words, time_words, log_entry_words, priority_words}
 use Rattle.object_words.specs.Results.{result_lines}
 use Rattle.object_words.specs.declared.style.ResultsStyle.{ResultsStyle}
 use Rattle.object_words.specs.declared.style.ResultsStyle.TheVariants.{Lines, OneLine, Codes}
@@ -34,19 +34,19 @@ below level = min (level + 1) 255
 
 -- terminal verification results, bit by bit below their line, or in it
 abbrev pub bits_below : ResultsStyle → ℕ → List ℕ → List Piece
-bits_below Lines level value = result_lines (number_in value) level None
-bits_below (Codes known) level value = result_lines (number_in value) level (Some known)
-bits_below OneLine level value = (if number_in value == 0 then [] else text (codes ", bits") ++ bit_numbers value)
+bits_below Lines level value = result_lines (binary_number value) level None
+bits_below (Codes known) level value = result_lines (binary_number value) level (Some known)
+bits_below OneLine level value = (if binary_number value == 0 then [] else text (codes ", bits") ++ bit_numbers value)
 
 abbrev pub verification_words : Style → List ℕ → Option (List Piece)
 verification_words style value = told_if (length value == 5) (hex value ++ bits_below style.results (below style.level) value)
 
 -- a value by its form; none where it is of another length or content, or its form is that of bytes
 abbrev pub table_words : Form → Style → List ℕ → Option (List Piece)
-table_words form.Interchange style value = flags_words (map (λ w. (w.0, w.1.now)) INTERCHANGE_BITS) 2 value
-table_words form.Usage style value = flags_words (map (λ w. (w.0, w.1.now)) USAGE_BITS) 2 value
-table_words form.Capabilities style value = flags_words (map (λ w. (w.0, w.1.now)) CAPABILITY_BITS) 3 value
-table_words form.Status style value = flags_words (map (λ w. (w.0, w.1.now)) STATUS_BITS) 2 value
+table_words form.Interchange style value = table_flags_words (map (λ w. (w.0, w.1.now)) INTERCHANGE_BITS) 2 value
+table_words form.Usage style value = table_flags_words (map (λ w. (w.0, w.1.now)) USAGE_BITS) 2 value
+table_words form.Capabilities style value = table_flags_words (map (λ w. (w.0, w.1.now)) CAPABILITY_BITS) 3 value
+table_words form.Status style value = table_flags_words (map (λ w. (w.0, w.1.now)) STATUS_BITS) 2 value
 table_words form.Results style value = verification_words style value
 table_words form.TerminalType style value = coded_words (map (λ w. (w.0, w.1.now)) TERMINAL_TYPES) value
 table_words form.Trade style value = coded_words (map (λ w. (w.0, w.1.now)) TRADES) value
@@ -73,7 +73,7 @@ form_words form.Text style value = text_words value
 form_words form.Digits style value = digits_words value
 form_words form.Number style value = number_words value
 form_words form.Amount style value = amount_words value
-form_words form.Code style value = code_words value
+form_words form.Code style value = three_digits_words value
 form_words form.Date style value = date_words value
 form_words form.Time style value = time_words value
 form_words form.Bits style value = Some (bits_words value)
@@ -89,7 +89,7 @@ named_value (Some named) style value = text (codes " ") ++ text named.0 ++ text 
 
 -- the name of a tag, and how its value is told
 unfoldable pub name_of : ℕ → Option (List ℕ × Form)
-name_of tag = name_in (map (λ n. (n.0, n.1.now, n.2)) NAMES) tag
+name_of tag = tag_name_in (map (λ n. (n.0, n.1.now, n.2)) NAMES) tag
 
 -- an object in a line of its own: its tag, its name, and its value
 unfoldable pub object_words : Style → ℕ → List ℕ → List Piece

@@ -2,11 +2,11 @@
 -- Annex C5).
 use Rattle.std.specs.Prelude.{ℕ, ◌+◌, ◌-◌, ◌*◌, ◌/◌, ◌%◌, ◌^◌, ◌==◌, Bool, true, false, ◌||◌, if◌then◌else◌, List, [], ◌++◌, map, codes, Option, Some, None, option_map}
 use Rattle.std.specs.Borrow.{Bor}
-use Rattle.word_lines.specs.Pieces.{Piece, line, text, number}
-use Rattle.word_lines.specs.Bits.{has_bit, bits_from, bits_between}
-use Rattle.explain_words.specs.Words.{word_in}
-use Rattle.explain_words.specs.declared.bits.TheConstants.{RESULT_BITS}
-use Rattle.action_words.specs.declared.asking.Row.{Row}
+use Rattle.report_lines.specs.Pieces.{Piece, line, text, number}
+use Rattle.report_lines.specs.Bits.{has_bit, bits_told_from, bits_between}
+use Rattle.value_words.specs.Words.{word_in}
+use Rattle.value_words.specs.declared.bits.TheConstants.{RESULT_BITS}
+use Rattle.value_words.specs.declared.asking.Row.{Row}
 use Rattle.object_words.specs.declared.style.KnownCodes.{KnownCodes}
 use Rattle.object_words.specs.declared.phrases.TheConstants.{IN_NO_CARD_CODE}
 
@@ -69,8 +69,8 @@ holders_words place known =
     ++ row_or_none (denial || online || default) known.row place
 
 -- the codes behind a reference
-abbrev pub held : Option (Bor KnownCodes) → Option KnownCodes
-held known = option_map (λ codes. codes.now) known
+abbrev pub codes_held : Option (Bor KnownCodes) → Option KnownCodes
+codes_held known = option_map (λ codes. codes.now) known
 
 abbrev pub known_words : ℕ → Option KnownCodes → List Piece
 known_words place None = []
@@ -82,12 +82,12 @@ result_line level known place = line level ++ result_bit_words place ++ known_wo
 
 -- each bit that is set in a line of its own
 abbrev pub result_lines : ℕ → ℕ → Option KnownCodes → List Piece
-result_lines results level known = bits_from 40 [] (result_line level known) results true 0 40
+result_lines results level known = bits_told_from 40 [] (result_line level known) results true 0 40
 
 -- each bit that is set in one line
-abbrev pub result_bits : ℕ → List Piece
-result_bits results = bits_between 40 (text (codes "; ")) result_bit_words results
+abbrev pub tvr_bits_words : ℕ → List Piece
+tvr_bits_words results = bits_between 40 (text (codes "; ")) result_bit_words results
 
 -- the same, or `no bit`
 abbrev pub results_words : ℕ → List Piece
-results_words results = (if results % 2 ^ 40 == 0 then text (codes "no bit") else result_bits results)
+results_words results = (if results % 2 ^ 40 == 0 then text (codes "no bit") else tvr_bits_words results)

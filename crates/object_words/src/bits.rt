@@ -2,14 +2,13 @@
 ghost use Rattle.std.specs.Prelude.{◌≡◌, ◌==◌, not, ◌+◌, ◌<◌, ◌≤◌, ◌++◌, [], length, map, if◌then◌else◌, codes, is_some, option_map};
 ghost use Rattle.std.specs.List.{list_any};
 ghost use Rattle.object_words.specs.Bits as spec;
-ghost use Rattle.list_words.specs.Plain.{or_nothing};
-ghost use Rattle.word_lines.specs.Bits.{has_bit as is_set};
-ghost use Rattle.word_lines.specs.Pieces as piece;
-ghost use Rattle.word_lines.specs.Pieces.{Tells};
+ghost use Rattle.value_words.specs.Plain.{or_nothing};
+ghost use Rattle.report_lines.specs.Bits.{has_bit as is_set};
+ghost use Rattle.report_lines.specs.Pieces as piece;
+ghost use Rattle.report_lines.specs.Pieces.{Tells};
 
-use explain_words::word_of;
-use list_words::tell_hex;
-use word_lines::WordLines;
+use report_lines::WordLines;
+use value_words::{tell_hex, word_of};
 
 /// Whether a byte has the bit of this place, from 0 at the left.
 fn has_bit(byte: u8, place: u8) -> bool
@@ -132,8 +131,8 @@ pub(crate) fn tell_flags(
     value: &[u8],
 ) -> bool
     requires { count ≤ 100 }
-    ensures words { Tells out.old out.new (or_nothing (spec.flags_words (map (λ w. (w.0, w.1.now)) table.now) count value.now)) }
-    ensures told { result ≡ is_some (spec.flags_words (map (λ w. (w.0, w.1.now)) table.now) count value.now) }
+    ensures words { Tells out.old out.new (or_nothing (spec.table_flags_words (map (λ w. (w.0, w.1.now)) table.now) count value.now)) }
+    ensures told { result ≡ is_some (spec.table_flags_words (map (λ w. (w.0, w.1.now)) table.now) count value.now) }
 {
     if value.len() != count {
         return false;

@@ -1,14 +1,13 @@
 //! Commands of issuer scripts.
 ghost use Rattle.std.specs.Prelude.{◌≡◌, is_some, true};
 ghost use Rattle.object_words.specs.Commands as spec;
-ghost use Rattle.list_words.specs.Plain.{or_nothing};
-ghost use Rattle.word_lines.specs.Pieces.{Tells};
+ghost use Rattle.value_words.specs.Plain.{or_nothing};
+ghost use Rattle.report_lines.specs.Pieces.{Tells};
 
 use crate::phrases::NO_SCRIPT_COMMAND;
 use emv_dict::amount_of;
-use explain_words::{SCRIPT_COMMANDS, word_of};
-use list_words::{all_digits, number_in};
-use word_lines::WordLines;
+use report_lines::WordLines;
+use value_words::{SCRIPT_COMMANDS, all_digits, number_in, word_of};
 
 /// PUT DATA of the limit of the number of offline approvals.
 const COUNT_LIMIT: u32 = 0x04da_df01;

@@ -1,8 +1,8 @@
 //! Values that the issuer gives or reads.
 ghost use Rattle.std.specs.Prelude.{◌≡◌, is_some, option_map};
 ghost use Rattle.object_words.specs.Issuer as spec;
-ghost use Rattle.list_words.specs.Plain.{or_nothing};
-ghost use Rattle.word_lines.specs.Pieces.{Tells};
+ghost use Rattle.value_words.specs.Plain.{or_nothing};
+ghost use Rattle.report_lines.specs.Pieces.{Tells};
 
 use crate::bits::tell_bit_words;
 use crate::phrases::{
@@ -10,8 +10,8 @@ use crate::phrases::{
     RESPONSE_CRYPTOGRAM, STATUS_UPDATE,
 };
 use crate::style::Style;
-use explain_words::{CRYPTOGRAMS, RESPONSES, UPDATE_BITS, word_of};
-use word_lines::WordLines;
+use report_lines::WordLines;
+use value_words::{CRYPTOGRAMS, RESPONSES, UPDATE_BITS, word_of};
 
 /// The response code 00.
 const APPROVED: u32 = 0x3030;

@@ -1,8 +1,9 @@
-//! Data objects in words: values by their form, objects within objects.
+//! Data objects in words: values by their form, objects within objects, and the fields of object lists.
 #![tactic(auto)]
 
 pub mod bits;
 pub mod command;
+pub mod fields;
 pub mod issuer;
 pub mod object;
 pub mod phrases;
@@ -11,6 +12,7 @@ pub mod style;
 
 pub use bits::tell_bit_word;
 pub use command::tell_script_command;
+pub use fields::{tell_fields, tell_fields_beside};
 pub use object::{Object, next_item, tell_object, tell_objects, tell_value};
 pub use results::tell_results;
 pub use style::{KnownCodes, ResultsStyle, Style};

@@ -3,10 +3,10 @@ ghost use Rattle.std.specs.Prelude.{◌≡◌, ◌<◌, ◌≤◌, ◌==◌, ◌
 ghost use Rattle.ber_tlv.specs.Seen.{seen};
 ghost use Rattle.object_words.specs.Leading.{leading_behind, then_leading};
 ghost use Rattle.object_words.specs.Objects as spec;
-ghost use Rattle.list_words.specs.Plain.{or_nothing};
+ghost use Rattle.value_words.specs.Plain.{or_nothing};
 ghost use Rattle.object_words.specs.Bits.{bit_numbers};
-ghost use Rattle.word_lines.specs.Pieces as piece;
-ghost use Rattle.word_lines.specs.Pieces.{Tells};
+ghost use Rattle.report_lines.specs.Pieces as piece;
+ghost use Rattle.report_lines.specs.Pieces.{Tells};
 
 use crate::bits::{tell_bit_numbers, tell_bits, tell_coded, tell_flags};
 use crate::command::tell_command;
@@ -14,16 +14,13 @@ use crate::issuer::{tell_authentication, tell_information, tell_issuer_data, tel
 use crate::results::tell_result_lines;
 use crate::style::{ResultsStyle, Style};
 use ber_tlv::{Cursor, Item, Tag, first_fault, is_constructed, tag_bytes};
-use explain_words::{
+use report_lines::WordLines;
+use value_words::{
     CAPABILITY_BITS, Form, INTERCHANGE_BITS, STATUS_BITS, TERMINAL_TYPES, TRADES, USAGE_BITS,
-    name_of,
+    name_of, number_in, tell_amount, tell_code, tell_date, tell_digits, tell_hex, tell_list,
+    tell_locator, tell_log_entry, tell_method_result, tell_methods, tell_number, tell_priority,
+    tell_text, tell_time,
 };
-use list_words::{
-    number_in, tell_amount, tell_code, tell_date, tell_digits, tell_hex, tell_list, tell_locator,
-    tell_log_entry, tell_method_result, tell_methods, tell_number, tell_priority, tell_text,
-    tell_time,
-};
-use word_lines::WordLines;
 
 /// A data object: its tag and its value.
 #[derive(Clone, Copy)]

@@ -1,15 +1,14 @@
 //! Terminal verification results bit by bit, and the action codes that have each bit.
 ghost use Rattle.std.specs.Prelude.{◌≡◌, ◌<◌, ◌||◌, ◌++◌, [], if◌then◌else◌, codes, option_map};
 ghost use Rattle.object_words.specs.Results as spec;
-ghost use Rattle.word_lines.specs.Bits.{has_bit as is_set};
-ghost use Rattle.word_lines.specs.Pieces as piece;
-ghost use Rattle.word_lines.specs.Pieces.{Tells};
+ghost use Rattle.report_lines.specs.Bits.{has_bit as is_set};
+ghost use Rattle.report_lines.specs.Pieces as piece;
+ghost use Rattle.report_lines.specs.Pieces.{Tells};
 
 use crate::phrases::IN_NO_CARD_CODE;
 use crate::style::KnownCodes;
-use action_words::{Row, has_bit};
-use explain_words::{RESULT_BITS, word_of};
-use word_lines::WordLines;
+use report_lines::WordLines;
+use value_words::{RESULT_BITS, Row, has_bit, word_of};
 
 /// Tells one code that has the bit, where it has it; whether any code was told.
 fn tell_holder(out: &mut WordLines, told: bool, holds: bool, name: &[u8]) -> bool
@@ -136,7 +135,7 @@ fn tell_result_line(
     codes: Option<&KnownCodes>,
 )
     requires { place < 40 }
-    ensures { Tells out.old out.new (if is_set 40 results place then spec.result_line level (spec.held codes.entry) place else []) }
+    ensures { Tells out.old out.new (if is_set 40 results place then spec.result_line level (spec.codes_held codes.entry) place else []) }
 {
     if !has_bit(results, place) {
         return;
@@ -156,7 +155,7 @@ pub(crate) fn tell_result_lines(
     level: u8,
     codes: Option<&KnownCodes>,
 )
-    ensures { Tells out.old out.new (spec.result_lines results level (spec.held codes.entry)) }
+    ensures { Tells out.old out.new (spec.result_lines results level (spec.codes_held codes.entry)) }
 {
     for place in 0..40u8 {
         tell_result_line(out, results, place, level, codes);
@@ -189,7 +188,7 @@ fn tell_next_result(out: &mut WordLines, results: u64, place: u8, told: bool) ->
 
 /// Tells each bit that is set of 40, with semicolons between.
 fn tell_result_bits(out: &mut WordLines, results: u64)
-    ensures { Tells out.old out.new (spec.result_bits results) }
+    ensures { Tells out.old out.new (spec.tvr_bits_words results) }
 {
     let mut told = false;
     for place in 0..40u8 {

@@ -2,7 +2,7 @@
 ghost use Rattle.std.specs.Prelude.{◌≡◌};
 ghost use Rattle.object_words.specs.Objects.{plain};
 
-use action_words::{CardCodes, Row};
+use value_words::{CardCodes, Row};
 
 /// The action codes that are known.
 #[derive(Clone, Copy)]

@@ -5,7 +5,7 @@ use Rattle.std.proofs.lemmas.Bool.Decides.{nat_tests}
 use Rattle.std.specs.List.{All}
 use Rattle.std.specs.Prelude.{option_and_then}
 use Rattle.std.specs.Result.{result_ok}
-use Rattle.auth_message.specs.Accepted.{AreDigits}
+use Rattle.auth_message.specs.Accepted.{AreDigitBytes}
 use Rattle.ber_tlv.proofs.ReadAgain.{both}
 use Rattle.emv_dict.specs.Bcd.{has_digits}
 use Rattle.emv_dict.specs.Date.{date_of, is_date}
@@ -18,7 +18,7 @@ use Rattle.env_map.specs.Entries.{value_of}
 use Rattle.object_lists.specs.CardRead.{ReadCard, IsRead}
 use Rattle.object_lists.specs.Forms.{is_two_digits}
 
-pub all_digits : (bytes : List ℕ) → All (λ b. IsTrue (has_digits b)) bytes → AreDigits bytes
+pub all_digits : (bytes : List ℕ) → All (λ b. IsTrue (has_digits b)) bytes → AreDigitBytes bytes
 all_digits [] all = refl
 all_digits (byte ∷ bytes) all =
     let first : has_digits byte ≡ true = all 0 0 (omega arith) in
@@ -27,7 +27,7 @@ all_digits (byte ∷ bytes) all =
 small_digits : (byte : ℕ) → nat_le byte 9 ≡ true → has_digits byte ≡ true
 small_digits byte small = grind (arith, nat_tests)
 
-pub code_digits : (bytes : List ℕ) → length bytes ≡ 2 → IsTrue (is_code bytes) → AreDigits bytes
+pub code_digits : (bytes : List ℕ) → length bytes ≡ 2 → IsTrue (is_code bytes) → AreDigitBytes bytes
 code_digits [] two code = refl
 code_digits (a ∷ []) two code = absurd (omega arith)
 code_digits (a ∷ b ∷ []) two code =
@@ -42,14 +42,14 @@ small_trade trade false false true first second third known = grind (arith, nat_
 small_trade trade false false false first second third known = cc
 
 -- a type of transaction
-pub trade_digits : (trade : ℕ) → IsTrue (trade == 0 || (trade == 1 || trade == 9)) → AreDigits (trade ∷ [])
+pub trade_digits : (trade : ℕ) → IsTrue (trade == 0 || (trade == 1 || trade == 9)) → AreDigitBytes (trade ∷ [])
 trade_digits trade known = rw (small_digits trade (le-leb trade 9 (small_trade trade _ _ _ refl refl refl known))) refl
 
 is_date-there : (test : Bool) (year month day : ℕ) → IsSome (let date : Option Date = (if test then Some (record { year = year; month = month; day = day }) else None) in date) → test ≡ true
 is_date-there true year month day there = refl
 is_date-there false year month day there = there
 
-pub date_digits : (bytes : List ℕ) → length bytes ≡ 3 → IsSome (date_of bytes) → AreDigits bytes
+pub date_digits : (bytes : List ℕ) → length bytes ≡ 3 → IsSome (date_of bytes) → AreDigitBytes bytes
 date_digits [] three there = refl
 date_digits (a ∷ []) three there = absurd (omega arith)
 date_digits (a ∷ b ∷ []) three there = absurd (omega arith)
@@ -88,10 +88,10 @@ card_pan card read = there-long (value_of 0x5A card.entries) card.pan read.digit
 pub two_digits-one : (value : List ℕ) → IsTrue (is_two_digits value) → length value ≡ 1
 two_digits-one value form = let parts = both (length value == 1) _ form in grind (arith, nat_tests)
 
-pub two_digits-digits : (byte : ℕ) → IsTrue (is_two_digits (byte ∷ [])) → AreDigits (byte ∷ [])
+pub two_digits-digits : (byte : ℕ) → IsTrue (is_two_digits (byte ∷ [])) → AreDigitBytes (byte ∷ [])
 two_digits-digits byte form = let parts = both (length (byte ∷ []) == 1) (has_digits byte) form in rw parts.1 refl
 
-pub two_digits-value : (value : List ℕ) → IsTrue (is_two_digits value) → AreDigits value
+pub two_digits-value : (value : List ℕ) → IsTrue (is_two_digits value) → AreDigitBytes value
 two_digits-value [] form = cc
 two_digits-value (byte ∷ []) form = two_digits-digits byte form
 two_digits-value (byte ∷ other ∷ rest) form = let one = two_digits-one (byte ∷ other ∷ rest) form in absurd (omega arith)

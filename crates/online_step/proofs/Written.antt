@@ -19,11 +19,11 @@ use Rattle.emv_dict.specs.Kinds.{kind_byte, kind_of}
 use Rattle.emv_dict.specs.declared.ending.Cause.{Cause}
 use Rattle.emv_dict.specs.declared.ending.Kind.{Kind}
 use Rattle.emv_dict.specs.declared.ending.Kind.TheVariants.{Aac, Tc, Arqc}
-use Rattle.online_step.specs.Ac.{AcObjects, ◌>>=◌, in_format_one, in_format_two, of_values, of_objects, by_format, objects_in, is_refused, of_kind, allowed, ac_said, ac_of}
-use Rattle.online_step.specs.Laws.{Given, IsGiven, answer_one, answer_two, objects_of, read_of}
+use Rattle.online_step.specs.Ac.{AcObjects, ◌>>=◌, ac_in_format_one, ac_in_format_two, of_values, ac_of_objects, ac_by_format, objects_in, is_kind_refused, of_kind, allowed_ac, ac_said, ac_in_answer}
+use Rattle.online_step.specs.Laws.{AcGiven, IsAcGiven, answer_one, answer_two, objects_of, read_of}
 use Rattle.online_step.specs.declared.ac.GenerateAc.{GenerateAc}
 
-objects_from : Given → AcObjects
+objects_from : AcGiven → AcObjects
 objects_from given = record { information = kind_byte given.kind; counter = given.high ∷ given.low ∷ []; cryptogram = given.cryptogram; iad = given.iad }
 
 kind_again : (kind : Kind) → kind_of (kind_byte kind) ≡ Some kind
@@ -31,18 +31,18 @@ kind_again Aac = refl
 kind_again Tc = refl
 kind_again Arqc = refl
 
-allowed_given : (given : Given) (asked : Kind) (which : GenerateAc) → is_refused given.kind asked which ≡ false → allowed asked which (objects_from given) ≡ Ok (read_of given)
+allowed_given : (given : AcGiven) (asked : Kind) (which : GenerateAc) → is_kind_refused given.kind asked which ≡ false → allowed_ac asked which (objects_from given) ≡ Ok (read_of given)
 unfolding objects_from
 allowed_given given asked which may =
     ap (of_kind asked which (objects_from given)) (kind_again given.kind) ∙ rw may refl
 
 -- an answer with this body
-said : (body : List ℕ) (given : Given) (asked : Kind) (which : GenerateAc) → length body ≤ 256 → objects_in body ≡ Ok (objects_from given) → is_refused given.kind asked which ≡ false
-    → ac_of (response_bytes body no_error) asked which ≡ Ok (read_of given)
-unfolding ac_of
+said : (body : List ℕ) (given : AcGiven) (asked : Kind) (which : GenerateAc) → length body ≤ 256 → objects_in body ≡ Ok (objects_from given) → is_kind_refused given.kind asked which ≡ false
+    → ac_in_answer (response_bytes body no_error) asked which ≡ Ok (read_of given)
+unfolding ac_in_answer
 said body given asked which short objects may =
     ap (ac_said asked which) (response_again body no_error short)
-    ∙ ap (λ (r : Result AcObjects Cause). r >>= allowed asked which) objects
+    ∙ ap (λ (r : Result AcObjects Cause). r >>= allowed_ac asked which) objects
     ∙ allowed_given given asked which may
 
 cut_first : (n : ℕ) (xs ys : List ℕ) → length xs ≡ n → take n (xs ++ ys) ≡ xs
@@ -51,16 +51,16 @@ cut_first n xs ys same = ap (λ (m : ℕ). take m (xs ++ ys)) (sym same) ∙ tak
 cut_rest : (n : ℕ) (xs ys : List ℕ) → length xs ≡ n → drop n (xs ++ ys) ≡ ys
 cut_rest n xs ys same = ap (λ (m : ℕ). drop m (xs ++ ys)) (sym same) ∙ drop-append_seam xs ys
 
-abbrev value_one : Given → List ℕ
+abbrev value_one : AcGiven → List ℕ
 value_one given = kind_byte given.kind ∷ given.high ∷ given.low ∷ given.cryptogram ++ given.iad
 
-value_one-length : (given : Given) → IsGiven given → length (value_one given) ≡ 11 + length given.iad
+value_one-length : (given : AcGiven) → IsAcGiven given → length (value_one given) ≡ 11 + length given.iad
 value_one-length given is =
     let count : length (given.cryptogram ++ given.iad) ≡ 8 + length given.iad = simp (length-append, is.cryptogram) refl in
     omega arith
 
-format_one : (given : Given) → IsGiven given → in_format_one (value_one given) ≡ Ok (objects_from given)
-unfolding in_format_one objects_from
+format_one : (given : AcGiven) → IsAcGiven given → ac_in_format_one (value_one given) ≡ Ok (objects_from given)
+unfolding ac_in_format_one objects_from
 format_one given is =
     let count = value_one-length given is in
     let most = is.iad in
@@ -69,18 +69,18 @@ format_one given is =
     let rest = cut_rest 8 given.cryptogram given.iad is.cryptogram in
     rw (fits, first, rest) refl
 
-format_two : (given : Given) (start : ℕ) → IsGiven given → of_objects (placed start (objects_of given)) ≡ Ok (objects_from given)
+format_two : (given : AcGiven) (start : ℕ) → IsAcGiven given → ac_of_objects (placed start (objects_of given)) ≡ Ok (objects_from given)
 unfolding of_values objects_from
 format_two given start is =
     let eight : (length given.cryptogram == 8) ≡ true = (let same = is.cryptogram in grind (arith, nat_tests)) in
     let few : nat_le (length given.iad) 32 ≡ true = (let most = is.iad in grind (arith, nat_tests)) in
     rw (eight, few) refl
 
-objects_one : (given : Given) → IsGiven given → objects_in (written 0x80 (value_one given)) ≡ Ok (objects_from given)
+objects_one : (given : AcGiven) → IsAcGiven given → objects_in (written 0x80 (value_one given)) ≡ Ok (objects_from given)
 unfolding objects_in
 objects_one given is =
     let body = written 0x80 (value_one given) in
-    ap (λ (value : Option (List ℕ)). by_format body value (sole_value 0x77 (items_of body))) (sole_value-written 0x80 body (value_one given) refl refl)
+    ap (λ (value : Option (List ℕ)). ac_by_format body value (sole_value 0x77 (items_of body))) (sole_value-written 0x80 body (value_one given) refl refl)
     ∙ format_one given is
 
 -- a template 77 alone is no object 80
@@ -97,7 +97,7 @@ other_value (Ok (item ∷ [])) value is = value_other (item.tag == 0x77) (item.t
 other_value (Ok (item ∷ other ∷ items)) value is = cc
 other_value (Err fault) value is = cc
 
-items_two : (given : Given) → items_of (spelled (objects_of given)) ≡ Ok (placed 0 (objects_of given))
+items_two : (given : AcGiven) → items_of (spelled (objects_of given)) ≡ Ok (placed 0 (objects_of given))
 items_two given =
     let content = spelled (objects_of given) in
     let end = left-end content (length content) (no_zeros content (length content) (omega arith)) in
@@ -105,25 +105,25 @@ items_two given =
     read_fields (objects_of given) [] [] content [] refl (sym (append-nil content)) (ap (items_behind content) start ∙ end)
     ∙ ap (λ (items : List ItemData). let r : Result (List ItemData) TlvFault = Ok items in r) (append-nil (placed 0 (objects_of given)))
 
-objects_two : (given : Given) → IsGiven given → objects_in (written 0x77 (spelled (objects_of given))) ≡ Ok (objects_from given)
+objects_two : (given : AcGiven) → IsAcGiven given → objects_in (written 0x77 (spelled (objects_of given))) ≡ Ok (objects_from given)
 unfolding objects_in
 objects_two given is =
     let content = spelled (objects_of given) in
     let body = written 0x77 content in
     let found = sole_value-written 0x77 body content refl refl in
-    ap (λ (value : Option (List ℕ)). by_format body value (sole_value 0x77 (items_of body))) (other_value (items_of body) content found)
-    ∙ ap (λ (value : Option (List ℕ)). by_format body None value) found
-    ∙ ap (in_format_two body) (items_two given)
+    ap (λ (value : Option (List ℕ)). ac_by_format body value (sole_value 0x77 (items_of body))) (other_value (items_of body) content found)
+    ∙ ap (λ (value : Option (List ℕ)). ac_by_format body None value) found
+    ∙ ap (ac_in_format_two body) (items_two given)
     ∙ format_two given 0 is
 
-pub read_one : (given : Given) (asked : Kind) (which : GenerateAc) → IsGiven given → is_refused given.kind asked which ≡ false → ac_of (answer_one given) asked which ≡ Ok (read_of given)
+pub read_one : (given : AcGiven) (asked : Kind) (which : GenerateAc) → IsAcGiven given → is_kind_refused given.kind asked which ≡ false → ac_in_answer (answer_one given) asked which ≡ Ok (read_of given)
 read_one given asked which is may =
     let most = is.iad in
     let count = value_one-length given is in
     let short = written_short 0x80 (value_one given) in
     said (written 0x80 (value_one given)) given asked which (omega arith) (objects_one given is) may
 
-pub read_two : (given : Given) (asked : Kind) (which : GenerateAc) → IsGiven given → is_refused given.kind asked which ≡ false → ac_of (answer_two given) asked which ≡ Ok (read_of given)
+pub read_two : (given : AcGiven) (asked : Kind) (which : GenerateAc) → IsAcGiven given → is_kind_refused given.kind asked which ≡ false → ac_in_answer (answer_two given) asked which ≡ Ok (read_of given)
 read_two given asked which is may =
     let a = written 0x9F27 (kind_byte given.kind ∷ []) in
     let b = written 0x9F36 (given.high ∷ given.low ∷ []) in

@@ -17,14 +17,14 @@ verdict_said None = Err Answer
 verdict_said (Some said) = Ok (said.status == no_error)
 
 -- whether the card says that the issuer is authentic; an answer that cannot be read ends the transaction
-unfoldable pub verdict_of : List ℕ → Result Bool Cause
-verdict_of answer = verdict_said (response_of answer)
+unfoldable pub authentication_verdict : List ℕ → Result Bool Cause
+authentication_verdict answer = verdict_said (response_of answer)
 
 abbrev pub after_verdict : Result Bool Cause → List (List ℕ) → Progress Bool
 after_verdict (Ok right) rest = Done right rest
 after_verdict (Err because) rest = Stopped because
 
 -- the step over the answers
-abbrev pub authenticated : List ℕ → List (List ℕ) → Progress Bool
-authenticated value [] = Wants (authenticate_command value)
-authenticated value (answer ∷ rest) = after_verdict (verdict_of answer) rest
+abbrev pub authentication_step : List ℕ → List (List ℕ) → Progress Bool
+authentication_step value [] = Wants (authenticate_command value)
+authentication_step value (answer ∷ rest) = after_verdict (authentication_verdict answer) rest

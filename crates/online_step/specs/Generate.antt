@@ -13,17 +13,17 @@ use Rattle.object_lists.specs.CardRead.{ReadCard}
 use Rattle.object_lists.specs.DolEntries.{DolEntry, dol_of, total_of}
 use Rattle.object_lists.specs.Filled.{dol_data}
 use Rattle.object_lists.specs.declared.dol.DolFault.{DolFault}
-use Rattle.online_step.specs.Ac.{ac_of}
+use Rattle.online_step.specs.Ac.{ac_in_answer}
 use Rattle.online_step.specs.declared.ac.GenerateAc.{GenerateAc}
 
 -- the data of a list, where it is read and they have room in a command
-abbrev pub filled : Entries → Entries → Result (List DolEntry) DolFault → Option (List ℕ)
-filled card terminal (Ok dol) = (if nat_le (total_of dol) 252 then Some (dol_data dol card terminal) else None)
-filled card terminal (Err fault) = None
+abbrev pub filled_list : Entries → Entries → Result (List DolEntry) DolFault → Option (List ℕ)
+filled_list card terminal (Ok dol) = (if nat_le (total_of dol) 252 then Some (dol_data dol card terminal) else None)
+filled_list card terminal (Err fault) = None
 
 -- the data of a card's object list, CDOL1 (8C) or CDOL2 (8D), none above 252 bytes
 unfoldable pub list_data : ℕ → ReadCard → Entries → Option (List ℕ)
-list_data tag card terminal = option_and_then (λ list. filled card.entries terminal (dol_of list)) (value_of tag card.entries)
+list_data tag card terminal = option_and_then (λ list. filled_list card.entries terminal (dol_of list)) (value_of tag card.entries)
 
 -- the command that asks for a kind of cryptogram with these data
 unfoldable pub generate_command : Kind → List ℕ → List ℕ
@@ -38,4 +38,4 @@ after_ac (Err because) rest = Stopped because
 abbrev pub generated : ℕ → Kind → GenerateAc → Option (List ℕ) → List (List ℕ) → Progress AcData
 generated tag asked which None answers = Stopped (Dol (record { 0 = tag }))
 generated tag asked which (Some given) [] = Wants (generate_command asked given)
-generated tag asked which (Some given) (answer ∷ rest) = after_ac (ac_of answer asked which) rest
+generated tag asked which (Some given) (answer ∷ rest) = after_ac (ac_in_answer answer asked which) rest

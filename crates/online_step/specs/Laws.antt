@@ -9,7 +9,7 @@ use Rattle.emv_dict.specs.Views.{AcData}
 use Rattle.emv_dict.specs.declared.ending.Kind.{Kind}
 
 -- what a card gives
-pub record Given : Type 0 where
+pub record AcGiven : Type 0 where
   pub kind : Kind
   pub high : ℕ
   pub low : ℕ
@@ -17,16 +17,16 @@ pub record Given : Type 0 where
   pub iad : List ℕ
 
 -- the cryptogram has eight bytes, and the issuer application data have at most 32
-pub record IsGiven (given : Given) : Type 0 where
+pub record IsAcGiven (given : AcGiven) : Type 0 where
   pub cryptogram : length given.cryptogram ≡ 8
   pub iad : length given.iad ≤ 32
 
 -- format 1: the values one behind another in an object 80
-abbrev pub answer_one : Given → List ℕ
+abbrev pub answer_one : AcGiven → List ℕ
 answer_one given = response_bytes (written 0x80 (kind_byte given.kind ∷ given.high ∷ given.low ∷ given.cryptogram ++ given.iad)) no_error
 
 -- the objects of format 2
-abbrev pub objects_of : Given → List (ℕ × List ℕ)
+abbrev pub objects_of : AcGiven → List (ℕ × List ℕ)
 objects_of given =
     (0x9F27, kind_byte given.kind ∷ [])
     ∷ (0x9F36, given.high ∷ given.low ∷ [])
@@ -35,9 +35,9 @@ objects_of given =
     ∷ []
 
 -- format 2: the objects in a template 77
-abbrev pub answer_two : Given → List ℕ
+abbrev pub answer_two : AcGiven → List ℕ
 answer_two given = response_bytes (written 0x77 (spelled (objects_of given))) no_error
 
 -- the same as a terminal reads it
-abbrev pub read_of : Given → AcData
+abbrev pub read_of : AcGiven → AcData
 read_of given = record { kind = given.kind; counter = given.high * 256 + given.low; cryptogram = given.cryptogram; iad = given.iad }

@@ -11,8 +11,8 @@ use Rattle.online_step.specs.TerminalData.{object}
 use Rattle.pin_block.specs.Online.{online_of}
 
 -- a PIN that was entered, under the terminal's key
-abbrev pub enciphered : SettingsData → ReadCard → Option (List ℕ) → Option (List ℕ)
-enciphered settings card pin = option_map (λ digits. online_of settings.pin_key digits card.pan) pin
+abbrev pub enciphered_pin : SettingsData → ReadCard → Option (List ℕ) → Option (List ℕ)
+enciphered_pin settings card pin = option_map (λ digits. online_of settings.pin_key digits card.pan) pin
 
 -- the fields: the card's objects, the terminal's, those of the cryptogram, and the PIN block (DF11) if a PIN was
 -- entered
@@ -34,7 +34,7 @@ request_data card terminal settings ac pin = record {
     t9f26 = ac.cryptogram;
   };
   t9f10 = ac.iad;
-  tdf11 = enciphered settings card pin;
+  tdf11 = enciphered_pin settings card pin;
 }
 
 -- the request's bytes

@@ -1,6 +1,6 @@
 //! The answer to GENERATE AC (EMV 4.3 Book 3 section 6.5.5.4).
 ghost use Rattle.std.specs.Prelude.{◌≡◌, ◌≤◌, length, false, Ok, Err, IfOk, MatchResult};
-ghost use Rattle.online_step.specs.Ac.{ac_of, allowed, is_refused as refusal_test};
+ghost use Rattle.online_step.specs.Ac.{ac_in_answer, allowed_ac, is_kind_refused as refusal_test};
 ghost use Rattle.online_step.specs.SeenAc.{seen_objects};
 
 use crate::objects::{Objects, read_objects};
@@ -25,11 +25,11 @@ pub enum GenerateAc {
 /// and `Value` of an object (9F27, 9F36, 9F26, 9F10 in this order, or 80), and by `Kind` with the cryptogram
 /// information data, where the kind is above the one asked in the order TC, ARQC, AAC, or is ARQC the second
 /// time (EMV 4.3 Book 3 sections 6.5.5.4 and 10.8).
-#[tactic(auto, unfolding(crate::specs::Ac::ac_of))]
+#[tactic(auto, unfolding(crate::specs::Ac::ac_in_answer))]
 pub fn read_ac(reply: &[u8], asked: Kind, which: GenerateAc) -> Result<Ac, Cause>
     ensures exact { MatchResult result
-        (λ ac. ac_of reply.now asked which ≡ Ok ac)
-        (λ cause. ac_of reply.now asked which ≡ Err cause) }
+        (λ ac. ac_in_answer reply.now asked which ≡ Ok ac)
+        (λ cause. ac_in_answer reply.now asked which ≡ Err cause) }
     ensures kind { IfOk result (λ ac. refusal_test ac.kind asked which ≡ false) }
 {
     let Ok(response) = read_response(reply) else {
@@ -48,8 +48,8 @@ pub fn read_ac(reply: &[u8], asked: Kind, which: GenerateAc) -> Result<Ac, Cause
 fn allowed(objects: &Objects, asked: Kind, which: GenerateAc) -> Result<Ac, Cause>
     requires { length objects.now.iad.now ≤ 32 }
     ensures exact { MatchResult result
-        (λ ac. allowed asked which (seen_objects objects.now) ≡ Ok ac)
-        (λ cause. allowed asked which (seen_objects objects.now) ≡ Err cause) }
+        (λ ac. allowed_ac asked which (seen_objects objects.now) ≡ Ok ac)
+        (λ cause. allowed_ac asked which (seen_objects objects.now) ≡ Err cause) }
     ensures kind { IfOk result (λ ac. refusal_test ac.kind asked which ≡ false) }
 {
     let Some(kind) = Kind::of(objects.information) else {

@@ -1,6 +1,6 @@
 //! EXTERNAL AUTHENTICATE (EMV 4.3 Book 3 sections 6.5.4 and 10.9).
 ghost use Rattle.std.specs.Prelude.{◌≡◌, ◌≤◌, length};
-ghost use Rattle.online_step.specs.Authenticate.{authenticate_command, verdict_of};
+ghost use Rattle.online_step.specs.Authenticate.{authenticate_command, authentication_verdict};
 
 use apdu_core::status::NO_ERROR;
 use apdu_core::{Command, Out, read_response, write_command};
@@ -27,9 +27,9 @@ pub fn authenticate_command(value: &[u8], out: &mut Out)
 
 /// Whether the answer says that the issuer is authentic: its status is 9000. An answer that can't be read
 /// is the cause `Answer` (EMV 4.3 Book 3 section 10.9).
-#[tactic(auto, unfolding(crate::specs::Authenticate::verdict_of))]
+#[tactic(auto, unfolding(crate::specs::Authenticate::authentication_verdict))]
 pub fn read_verdict(reply: &[u8]) -> Result<bool, Cause>
-    ensures { result ≡ verdict_of reply.now }
+    ensures { result ≡ authentication_verdict reply.now }
 {
     match read_response(reply) {
         Ok(response) => Ok(response.status == NO_ERROR),

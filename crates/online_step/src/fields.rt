@@ -1,6 +1,6 @@
 //! The values that messages to the host are made of.
 ghost use Rattle.std.specs.Prelude.{◌≡◌, ◌<◌, IfSome, length};
-ghost use Rattle.auth_message.specs.Accepted.{AreDigits};
+ghost use Rattle.auth_message.specs.Accepted.{AreDigitBytes};
 ghost use Rattle.env_map.specs.Entries.{value_of};
 ghost use Rattle.online_step.specs.TerminalData.{object as object_value};
 
@@ -34,7 +34,7 @@ fn copied<const N: usize>(value: &[u8]) -> [u8; N]
 /// The application expiration date.
 pub(crate) fn expiry(card: &CardData) -> [u8; 3]
     ensures value { result ≡ object_value 0x5F24 card.now.entries }
-    ensures digits { AreDigits result }
+    ensures digits { AreDigitBytes result }
 {
     object(card.env(), 0x5f24)
 }
@@ -42,7 +42,7 @@ pub(crate) fn expiry(card: &CardData) -> [u8; 3]
 /// The sequence number of the account number, where the card has one.
 pub(crate) fn sequence_number(card: &CardData) -> Option<[u8; 1]>
     ensures value { result ≡ value_of 0x5F34 card.now.entries }
-    ensures digits { IfSome result AreDigits }
+    ensures digits { IfSome result AreDigitBytes }
 {
     match card.value(Tag(0x5f34)) {
         Some(value) => Some(copied(value)),

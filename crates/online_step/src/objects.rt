@@ -2,8 +2,8 @@
 ghost use Rattle.std.specs.Prelude.{◌≡◌, ◌≤◌, length, Ok, Err, IfOk, MatchResult};
 ghost use Rattle.ber_tlv.specs.Left.{items_of};
 ghost use Rattle.online_step.specs.Ac as spec;
-ghost use Rattle.online_step.specs.Ac.{objects_in, in_format_one, in_format_two, coding_cause};
-ghost use Rattle.online_step.specs.SeenAc.{seen, seen_objects};
+ghost use Rattle.online_step.specs.Ac.{objects_in, ac_in_format_one, ac_in_format_two, coding_cause};
+ghost use Rattle.online_step.specs.SeenAc.{seen_bytes, seen_objects};
 
 use ber_tlv::{Tag, first_value, place_or_zero, sole_value, template_fault};
 use emv_dict::Cause;
@@ -42,11 +42,11 @@ pub(crate) fn read_objects(body: &[u8]) -> Result<Objects<'_>, Cause>
     }
 }
 
-#[tactic(auto, unfolding(crate::specs::Ac::in_format_one))]
+#[tactic(auto, unfolding(crate::specs::Ac::ac_in_format_one))]
 fn read_format_one(value: &[u8]) -> Result<Objects<'_>, Cause>
     ensures exact { MatchResult result
-        (λ objects. in_format_one value.now ≡ Ok (seen_objects objects))
-        (λ cause. in_format_one value.now ≡ Err cause) }
+        (λ objects. ac_in_format_one value.now ≡ Ok (seen_objects objects))
+        (λ cause. ac_in_format_one value.now ≡ Err cause) }
     ensures short { IfOk result (λ objects. length objects.iad.now ≤ 32) }
 {
     let [
@@ -79,8 +79,8 @@ fn read_format_one(value: &[u8]) -> Result<Objects<'_>, Cause>
 
 fn read_format_two<'a>(body: &[u8], template: &'a [u8]) -> Result<Objects<'a>, Cause>
     ensures exact { MatchResult result
-        (λ objects. in_format_two body.now (items_of template.now) ≡ Ok (seen_objects objects))
-        (λ cause. in_format_two body.now (items_of template.now) ≡ Err cause) }
+        (λ objects. ac_in_format_two body.now (items_of template.now) ≡ Ok (seen_objects objects))
+        (λ cause. ac_in_format_two body.now (items_of template.now) ≡ Err cause) }
     ensures short { IfOk result (λ objects. length objects.iad.now ≤ 32) }
 {
     let Ok(information) = first_value(template, Tag(0x9f27)) else {
@@ -107,8 +107,8 @@ fn of_values<'a>(
     iad: Option<&'a [u8]>,
 ) -> Result<Objects<'a>, Cause>
     ensures exact { MatchResult result
-        (λ objects. spec.of_values (seen information.entry) (seen counter.entry) (seen cryptogram.entry) (seen iad.entry) ≡ Ok (seen_objects objects))
-        (λ cause. spec.of_values (seen information.entry) (seen counter.entry) (seen cryptogram.entry) (seen iad.entry) ≡ Err cause) }
+        (λ objects. spec.of_values (seen_bytes information.entry) (seen_bytes counter.entry) (seen_bytes cryptogram.entry) (seen_bytes iad.entry) ≡ Ok (seen_objects objects))
+        (λ cause. spec.of_values (seen_bytes information.entry) (seen_bytes counter.entry) (seen_bytes cryptogram.entry) (seen_bytes iad.entry) ≡ Err cause) }
     ensures short { IfOk result (λ objects. length objects.iad.now ≤ 32) }
 {
     let information: [u8; 1] = sized(0x9f27, information)?;
@@ -125,7 +125,7 @@ fn of_values<'a>(
 
 /// The value of an object that must be there, with `N` bytes.
 fn sized<const N: usize>(tag: u32, value: Option<&[u8]>) -> Result<[u8; N], Cause>
-    ensures { result ≡ spec.sized tag N (seen value.entry) }
+    ensures { result ≡ spec.sized tag N (seen_bytes value.entry) }
 {
     let Some(value) = value else {
         return Err(Cause::Missing(Tag(tag)));
@@ -141,8 +141,8 @@ fn sized<const N: usize>(tag: u32, value: Option<&[u8]>) -> Result<[u8; N], Caus
 /// The issuer application data, none where they are absent.
 fn issuer_data(value: Option<&[u8]>) -> Result<&[u8], Cause>
     ensures exact { MatchResult result
-        (λ iad. spec.issuer_data (seen value.entry) ≡ Ok iad.now)
-        (λ cause. spec.issuer_data (seen value.entry) ≡ Err cause) }
+        (λ iad. spec.issuer_data (seen_bytes value.entry) ≡ Ok iad.now)
+        (λ cause. spec.issuer_data (seen_bytes value.entry) ≡ Err cause) }
     ensures short { IfOk result (λ iad. length iad.now ≤ 32) }
 {
     match value {

@@ -1,10 +1,10 @@
 //! The request to the issuer's host (EMV 4.3 Book 3 section 10.9; the format is this project's own).
 ghost use Rattle.std.specs.Prelude.{◌≡◌, ◌<◌, IfSome, length, option_map};
-ghost use Rattle.auth_message.specs.Accepted.{AreDigits};
+ghost use Rattle.auth_message.specs.Accepted.{AreDigitBytes};
 ghost use Rattle.auth_message.specs.Whole.{IsMessage};
 ghost use Rattle.emv_dict.specs.Digits.{HasPinLength};
 ghost use Rattle.env_map.specs.Entries.{value_of};
-ghost use Rattle.online_step.specs.Request.{enciphered, request_of};
+ghost use Rattle.online_step.specs.Request.{enciphered_pin, request_of};
 ghost use Rattle.online_step.specs.TerminalData.{HasTerminalData};
 
 use crate::fields::{cryptogram, expiry, object, sequence_number};
@@ -63,7 +63,7 @@ pub fn request(
 /// The PIN block that goes to the issuer, where a PIN was entered.
 fn enciphered(settings: &Settings, card: &CardData, pin: Option<&Digits>) -> Option<[u8; 8]>
     requires { IfSome pin (λ digits. HasPinLength digits.now) }
-    ensures { result ≡ enciphered settings.now card.now (option_map (λ digits. digits.now) pin.entry) }
+    ensures { result ≡ enciphered_pin settings.now card.now (option_map (λ digits. digits.now) pin.entry) }
 {
     match pin {
         Some(digits) => Some(online_block(&Key16::new(settings.pin_key), digits, &card.pan)),

@@ -1,9 +1,9 @@
 -- The steps, chained, with the directory at first.
 use Rattle.std.proofs.Common.{◌≡◌, ℕ, Bool, true, false, List, [], ◌∷◌, refl}
 use Rattle.app_select.specs.Candidates.{CandidateData}
-use Rattle.app_select.specs.Chosen.{Follow, chosen, first_of, followed}
+use Rattle.app_select.specs.Chosen.{Follow, chosen, first_through, followed}
 use Rattle.app_select.specs.Selecting.{selecting}
-use Rattle.app_select.proofs.Chains.{opening-followed, selecting-followed}
+use Rattle.app_select.proofs.Chains.{first_selected-followed, selecting-followed}
 use Rattle.emv_dict.specs.Progress.{Progress, Wants, Stopped, Done}
 use Rattle.emv_dict.specs.declared.purchase.AidRow.{AidRow}
 use Rattle.pse_directory.specs.Chosen.{chosen_by}
@@ -11,11 +11,11 @@ use Rattle.pse_directory.specs.Directory.{directory, after_directory, by_directo
 
 module _ {A : Type 0} (follow : Follow A) (rows : List AidRow) (confirm : Bool) where
   directory-followed : (found : Progress (List CandidateData))
-      → followed follow (by_directory rows confirm found) ≡ after_directory (first_of follow) (chosen follow rows confirm) found
+      → followed follow (by_directory rows confirm found) ≡ after_directory (first_through follow) (chosen follow rows confirm) found
   directory-followed (Wants command) = refl
   directory-followed (Stopped cause) = refl
   directory-followed (Done [] rest) = selecting-followed follow rows confirm rest
-  directory-followed (Done (first ∷ behind) rest) = opening-followed follow (first ∷ behind) rest
+  directory-followed (Done (first ∷ behind) rest) = first_selected-followed follow (first ∷ behind) rest
 
   pub selecting_by-followed : (pse : Bool) (answers : List (List ℕ)) → followed follow (selecting_by pse rows confirm answers) ≡ chosen_by follow pse rows confirm answers
   unfolding selecting_by

@@ -6,13 +6,13 @@ use Rattle.std.specs.Str.{bytes_eq}
 use Rattle.std.proofs.lemmas.Bool.Decides.{nat_tests}
 use Rattle.std.proofs.lemmas.List.{length-map, map-append}
 use Rattle.std.proofs.lemmas.List.Folds.{find_at}
-use Rattle.app_select.specs.Candidates.{CandidateData, has_name}
+use Rattle.app_select.specs.Candidates.{CandidateData, is_candidate_named}
 use Rattle.app_select.specs.Named.{all_named, named_by, no_row}
 use Rattle.app_select.specs.Said.{is_supported}
 use Rattle.app_select.specs.declared.naming.Found.{Found}
 use Rattle.emv_dict.specs.declared.purchase.AidRow.{AidRow}
 use Rattle.pse_directory.specs.Entries.{EntryData}
-use Rattle.pse_directory.specs.Keeping.{with_entry}
+use Rattle.pse_directory.specs.Keeping.{with_listed}
 
 slice_get-there : (rows : List AidRow) (place : ℕ) → place < length rows → slice_get rows place ≡ Some (get_or rows place no_row)
 slice_get-there [] place there = absurd (omega (arith, there))
@@ -39,24 +39,24 @@ finds_by test rows place false is found = found ∙ slice_get-behind rows place 
 pub finds_at : (test : AidRow → Bool) (rows : List AidRow) → FindsAt test rows (position test rows)
 finds_at test rows = finds_by test rows (position_or_len test rows) (nat_lt (position_or_len test rows) (length rows)) refl (find_at test rows)
 
-pub any_named : (rows : List AidRow) (name : List ℕ) (found : List Found) → list_any (λ other. bytes_eq other.name name) found ≡ list_any (has_name name) (all_named rows found)
+pub any_named : (rows : List AidRow) (name : List ℕ) (found : List Found) → list_any (λ other. bytes_eq other.name name) found ≡ list_any (is_candidate_named name) (all_named rows found)
 any_named rows name [] = refl
 any_named rows name (one ∷ found) = ap (λ (b : Bool). bytes_eq one.name name || b) (any_named rows name found)
 
 out_named : (rows : List AidRow) (name : List ℕ) (found : List Found)
-    → (list_any (has_name name) (all_named rows found) || nat_le 16 (length (all_named rows found))) ≡ (list_any (λ other. bytes_eq other.name name) found || nat_le 16 (length found))
+    → (list_any (is_candidate_named name) (all_named rows found) || nat_le 16 (length (all_named rows found))) ≡ (list_any (λ other. bytes_eq other.name name) found || nat_le 16 (length found))
 out_named rows name found = rw (any_named rows name found, length-map) refl
 
 module _ (rows : List AidRow) (entry : EntryData) (found : List Found) where
   -- the terminal supports no such name
-  pub not_listed : None ≡ position (λ row. is_supported row.name row.partial entry.name) rows → with_entry rows (all_named rows found) entry ≡ all_named rows found
+  pub not_listed : None ≡ position (λ row. is_supported row.name row.partial entry.name) rows → with_listed rows (all_named rows found) entry ≡ all_named rows found
   not_listed is =
       let none : FindsAt (λ row. is_supported row.name row.partial entry.name) rows None = rw (sym is) at (finds_at (λ row. is_supported row.name row.partial entry.name) rows) in
       rw none refl
 
   -- one of its name is there, or there is no room
   pub left_out : (place : ℕ) → Some place ≡ position (λ row. is_supported row.name row.partial entry.name) rows
-      → (list_any (λ other. bytes_eq other.name entry.name) found || nat_le 16 (length found)) ≡ true → with_entry rows (all_named rows found) entry ≡ all_named rows found
+      → (list_any (λ other. bytes_eq other.name entry.name) found || nat_le 16 (length found)) ≡ true → with_listed rows (all_named rows found) entry ≡ all_named rows found
   left_out place is out =
       let at : FindsAt (λ row. is_supported row.name row.partial entry.name) rows (Some place) = rw (sym is) at (finds_at (λ row. is_supported row.name row.partial entry.name) rows) in
       let test = out_named rows entry.name found ∙ out in
@@ -71,7 +71,7 @@ module _ (rows : List AidRow) (entry : EntryData) (found : List Found) where
   pub taken : (place : ℕ) (more : List Found) → Some place ≡ position (λ row. is_supported row.name row.partial entry.name) rows
       → (list_any (λ other. bytes_eq other.name entry.name) found || nat_le 16 (length found)) ≡ false
       → more ≡ found ++ record { name = entry.name; priority = entry.priority; aid = place } ∷ []
-      → all_named rows more ≡ with_entry rows (all_named rows found) entry
+      → all_named rows more ≡ with_listed rows (all_named rows found) entry
   taken place more is out pushed =
       let at : FindsAt (λ row. is_supported row.name row.partial entry.name) rows (Some place) = rw (sym is) at (finds_at (λ row. is_supported row.name row.partial entry.name) rows) in
       let test = out_named rows entry.name found ∙ out in

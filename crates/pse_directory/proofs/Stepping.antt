@@ -18,14 +18,14 @@ use Rattle.ber_tlv.specs.declared.item.TlvFault.{TlvFault}
 use Rattle.emv_dict.specs.Progress.{Progress, Wants, Stopped}
 use Rattle.emv_dict.specs.declared.ending.Cause.TheVariants.{Answer, CardBlocked}
 use Rattle.emv_dict.specs.declared.purchase.AidRow.{AidRow}
-use Rattle.pse_directory.specs.Directory.{kept, listed_in, done, told, records, directory, directory_name}
+use Rattle.pse_directory.specs.Directory.{kept_candidates, listed_in, done, told, records, directory, directory_name}
 use Rattle.pse_directory.specs.Entries.{EntryData}
-use Rattle.pse_directory.specs.Keeping.{kept_with, with_entries}
-use Rattle.pse_directory.specs.Left.{PlaceData, AtName, AtRecord, DirectoryData, left_at, directory_left}
+use Rattle.pse_directory.specs.Keeping.{candidates_with, with_entries}
+use Rattle.pse_directory.specs.Left.{PlaceData, AtName, AtRecord, DirectoryData, directory_left_at, directory_left}
 use Rattle.pse_directory.specs.Said as said
-use Rattle.pse_directory.specs.Said.{NameSaid, RecordSaid, Unreadable, Past, Holds, Faulty, name_said, record_said, file_number, file_in, file_in_proprietary, file_in_items, file_in_template, directory_file, said_file, name_response}
+use Rattle.pse_directory.specs.Said.{NameSaid, RecordSaid, Unreadable, Past, Holds, Faulty, name_said, record_said, file_number, directory_file_in, file_in_proprietary, file_in_items, file_in_template, directory_file, said_file, name_response}
 use Rattle.pse_directory.proofs.Entering.{entries_kept}
-use Rattle.pse_directory.proofs.Kept.{kept-fold, kept-kept}
+use Rattle.pse_directory.proofs.Kept.{kept_candidates-fold, kept_candidates-kept_candidates}
 
 told_same : (what : RecordSaid) (one two : List CandidateData) (on another : List EntryData → Progress (List CandidateData)) (rest : List (List ℕ))
     → one ≡ two → ((entries : List EntryData) → on entries ≡ another entries) → told what one on rest ≡ told what two another rest
@@ -38,19 +38,19 @@ either_same : (test : Bool) (a b c d : Progress (List CandidateData)) → a ≡ 
 either_same true a b c d first later = first
 either_same false a b c d first later = later
 
-kept-more : (one two more : List CandidateData) → kept one ≡ kept two → kept (one ++ more) ≡ kept (two ++ more)
-kept-more one two more same =
-    kept-fold one more ∙ ap (λ (all : List CandidateData). fold kept_with all more) same ∙ sym (kept-fold two more)
+kept_candidates-more : (one two more : List CandidateData) → kept_candidates one ≡ kept_candidates two → kept_candidates (one ++ more) ≡ kept_candidates (two ++ more)
+kept_candidates-more one two more same =
+    kept_candidates-fold one more ∙ ap (λ (all : List CandidateData). fold candidates_with all more) same ∙ sym (kept_candidates-fold two more)
 
 -- reading on rests on what is kept alone
-records-same : (rows : List AidRow) (confirm : Bool) (sfi number : ℕ) (one two : List CandidateData) (answers : List (List ℕ)) → kept one ≡ kept two
+records-same : (rows : List AidRow) (confirm : Bool) (sfi number : ℕ) (one two : List CandidateData) (answers : List (List ℕ)) → kept_candidates one ≡ kept_candidates two
     → records rows confirm sfi number one answers ≡ records rows confirm sfi number two answers
 unfolding records
 records-same rows confirm sfi number one two [] same = refl
 records-same rows confirm sfi number one two (answer ∷ later) same =
-    told_same (record_said answer) (candidates confirm (kept one)) (candidates confirm (kept two)) _ _ later (ap (λ (all : List CandidateData). candidates confirm all) same)
+    told_same (record_said answer) (candidates confirm (kept_candidates one)) (candidates confirm (kept_candidates two)) _ _ later (ap (λ (all : List CandidateData). candidates confirm all) same)
     (λ entries.
-    let more = kept-more one two (listed_in rows entries) same in
+    let more = kept_candidates-more one two (listed_in rows entries) same in
     either_same (number == 255) _ _ _ _ (ap (λ (all : List CandidateData). done (candidates confirm all) later) more)
     (records-same rows confirm sfi (number + 1) (one ++ listed_in rows entries) (two ++ listed_in rows entries) later more))
 
@@ -59,7 +59,7 @@ module _ (rows : List AidRow) (confirm : Bool) (sfi number : ℕ) (found : List 
   unfolding records
   record_unread is later = rw is refl
 
-  pub record_past : record_said answer ≡ Past → kept found ≡ found → (new : List CandidateData) → new ≡ found → (later : List (List ℕ))
+  pub record_past : record_said answer ≡ Past → kept_candidates found ≡ found → (new : List CandidateData) → new ≡ found → (later : List (List ℕ))
       → records rows confirm sfi number found (answer ∷ later) ≡ done (candidates confirm new) later
   unfolding records
   record_past is same new new_is later = rw (is, same, new_is) refl
@@ -68,29 +68,29 @@ module _ (rows : List AidRow) (confirm : Bool) (sfi number : ℕ) (found : List 
   unfolding records
   record_faulty is later = rw (is, none_found confirm) refl
 
-  held : (entries : List EntryData) (new : List CandidateData) → kept found ≡ found → new ≡ with_entries rows found entries → new ≡ kept (found ++ listed_in rows entries)
+  held : (entries : List EntryData) (new : List CandidateData) → kept_candidates found ≡ found → new ≡ with_entries rows found entries → new ≡ kept_candidates (found ++ listed_in rows entries)
   held entries new same new_is = new_is ∙ entries_kept rows found entries same
 
-  pub new_kept : (entries : List EntryData) (new : List CandidateData) → kept found ≡ found → new ≡ with_entries rows found entries → kept new ≡ new
+  pub new_kept : (entries : List EntryData) (new : List CandidateData) → kept_candidates found ≡ found → new ≡ with_entries rows found entries → kept_candidates new ≡ new
   new_kept entries new same new_is =
       let is = held entries new same new_is in
-      ap kept is ∙ kept-kept (found ++ listed_in rows entries) ∙ sym is
+      ap kept_candidates is ∙ kept_candidates-kept_candidates (found ++ listed_in rows entries) ∙ sym is
 
-  pub record_last : (entries : List EntryData) (new : List CandidateData) → record_said answer ≡ Holds entries → (number == 255) ≡ true → kept found ≡ found → new ≡ with_entries rows found entries
+  pub record_last : (entries : List EntryData) (new : List CandidateData) → record_said answer ≡ Holds entries → (number == 255) ≡ true → kept_candidates found ≡ found → new ≡ with_entries rows found entries
       → (later : List (List ℕ)) → records rows confirm sfi number found (answer ∷ later) ≡ done (candidates confirm new) later
   unfolding records
   record_last entries new is last same new_is later =
       let all = held entries new same new_is in
       rw (is, last, all) refl
 
-  pub record_on : (entries : List EntryData) (new : List CandidateData) → record_said answer ≡ Holds entries → (number == 255) ≡ false → kept found ≡ found → new ≡ with_entries rows found entries
+  pub record_on : (entries : List EntryData) (new : List CandidateData) → record_said answer ≡ Holds entries → (number == 255) ≡ false → kept_candidates found ≡ found → new ≡ with_entries rows found entries
       → (later : List (List ℕ)) → records rows confirm sfi number found (answer ∷ later) ≡ records rows confirm sfi (number + 1) new later
   unfolding records
   record_on entries new is last same new_is later =
       let all = held entries new same new_is in
       rw (is, last)
       (records-same rows confirm sfi (number + 1) (found ++ listed_in rows entries) new later
-      (sym (kept-kept (found ++ listed_in rows entries)) ∙ ap kept (sym all)))
+      (sym (kept_candidates-kept_candidates (found ++ listed_in rows entries)) ∙ ap kept_candidates (sym all)))
 
 module _ (rows : List AidRow) (confirm : Bool) (answer : List ℕ) where
   pub name_unread : name_said answer ≡ said.NoResponse → (later : List (List ℕ)) → directory rows confirm (answer ∷ later) ≡ Stopped Answer
@@ -110,7 +110,7 @@ module _ (rows : List AidRow) (confirm : Bool) (answer : List ℕ) where
   name_nothing is later = rw (is, none_found confirm) refl
 
 -- a directory always asks before its next answer
-wants_at : (rows : List AidRow) (confirm : Bool) (place : PlaceData) → (command : List ℕ) × (left_at rows confirm place [] ≡ Wants command)
+wants_at : (rows : List AidRow) (confirm : Bool) (place : PlaceData) → (command : List ℕ) × (directory_left_at rows confirm place [] ≡ Wants command)
 unfolding directory records
 wants_at rows confirm AtName = (select_command 0 directory_name, refl)
 wants_at rows confirm (AtRecord sfi number found) = (record_command sfi number, refl)
@@ -132,7 +132,7 @@ number_fits (Some []) = tt
 number_fits (Some (sfi ∷ [])) = number_by sfi (nat_le 1 sfi && nat_le sfi 10) refl
 number_fits (Some (sfi ∷ other ∷ bytes)) = tt
 
-file_fits : (read : Result (List ItemData) TlvFault) → Fits (file_in read)
+file_fits : (read : Result (List ItemData) TlvFault) → Fits (directory_file_in read)
 file_fits (Ok items) = number_fits (first_value 0x88 items)
 file_fits (Err fault) = tt
 

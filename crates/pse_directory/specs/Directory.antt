@@ -3,7 +3,7 @@ use Rattle.std.specs.Prelude.{ℕ, ◌+◌, ◌++◌, ◌==◌, Bool, List, [], 
 use Rattle.apdu_core.specs.Command.{record_command}
 use Rattle.app_select.specs.Candidates.{CandidateData, firsts, candidates}
 use Rattle.app_select.specs.Said.{select_command, is_supported}
-use Rattle.app_select.specs.Selecting.{SelectedData, opening, selecting}
+use Rattle.app_select.specs.Selecting.{SelectedData, first_selected, selecting}
 use Rattle.emv_dict.specs.Progress.{Progress, Wants, Stopped, Done}
 use Rattle.emv_dict.specs.declared.ending.Cause.TheVariants.{Answer, CardBlocked}
 use Rattle.emv_dict.specs.declared.purchase.AidRow.{AidRow}
@@ -25,8 +25,8 @@ abbrev pub listed_in : List AidRow → List EntryData → List CandidateData
 listed_in rows entries = filter_map (listed_by rows) entries
 
 -- the first of each name, and at most 16 of these
-abbrev pub kept : List CandidateData → List CandidateData
-kept found = take 16 (firsts found)
+abbrev pub kept_candidates : List CandidateData → List CandidateData
+kept_candidates found = take 16 (firsts found)
 
 abbrev pub done : List CandidateData → List (List ℕ) → Progress (List CandidateData)
 done found rest = Done found rest
@@ -43,9 +43,9 @@ told Faulty so_far on rest = done [] rest
 unfoldable pub records : List AidRow → Bool → ℕ → ℕ → List CandidateData → List (List ℕ) → Progress (List CandidateData)
 records rows confirm sfi number found [] = Wants (record_command sfi number)
 records rows confirm sfi number found (answer ∷ later) =
-    told (record_said answer) (candidates confirm (kept found))
+    told (record_said answer) (candidates confirm (kept_candidates found))
     (λ entries.
-    if number == 255 then done (candidates confirm (kept (found ++ listed_in rows entries))) later
+    if number == 255 then done (candidates confirm (kept_candidates (found ++ listed_in rows entries))) later
     else records rows confirm sfi (number + 1) (found ++ listed_in rows entries) later)
     later
 
@@ -72,7 +72,7 @@ after_directory try list (Done found rest) = found_or try list found rest
 
 -- the final SELECTs of the directory's candidates; where it gives none, the list
 abbrev pub by_directory : List AidRow → Bool → Progress (List CandidateData) → Progress SelectedData
-by_directory rows confirm found = after_directory opening (selecting rows confirm) found
+by_directory rows confirm found = after_directory first_selected (selecting rows confirm) found
 
 -- application selection, with the directory at first or without it
 unfoldable pub selecting_by : Bool → List AidRow → Bool → List (List ℕ) → Progress SelectedData

@@ -17,17 +17,17 @@ pub record DirectoryData : Type 0 where
   pub confirm : Bool
   pub place : PlaceData
 
-abbrev pub left_at : List AidRow → Bool → PlaceData → List (List ℕ) → Progress (List CandidateData)
-left_at rows confirm AtName = directory rows confirm
-left_at rows confirm (AtRecord sfi number found) = records rows confirm sfi number found
+abbrev pub directory_left_at : List AidRow → Bool → PlaceData → List (List ℕ) → Progress (List CandidateData)
+directory_left_at rows confirm AtName = directory rows confirm
+directory_left_at rows confirm (AtRecord sfi number found) = records rows confirm sfi number found
 
 -- what the directory's answers to come give
 abbrev pub directory_left : DirectoryData → List (List ℕ) → Progress (List CandidateData)
-directory_left state = left_at state.rows state.confirm state.place
+directory_left state = directory_left_at state.rows state.confirm state.place
 
 -- what selection makes of the answers to come
-abbrev pub rest_of : DirectoryData → List (List ℕ) → Progress SelectedData
-rest_of state answers = by_directory state.rows state.confirm (directory_left state answers)
+abbrev pub directory_rest : DirectoryData → List (List ℕ) → Progress SelectedData
+directory_rest state answers = by_directory state.rows state.confirm (directory_left state answers)
 
 -- the most answers for the directory that are still taken: that to SELECT, and 255 records
 abbrev pub directory_answers : PlaceData → ℕ
@@ -35,5 +35,5 @@ directory_answers AtName = 256
 directory_answers (AtRecord sfi number found) = 256 - number
 
 -- and behind them those of the list
-abbrev pub answers_left : DirectoryData → ℕ
-answers_left state = directory_answers state.place + (16 * 16 + 256)
+abbrev pub directory_answers_left : DirectoryData → ℕ
+directory_answers_left state = directory_answers state.place + (16 * 16 + 256)

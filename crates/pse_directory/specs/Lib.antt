@@ -5,5 +5,5 @@ pub mod Chosen
 pub mod Keeping
 pub mod Left
 pub mod SeenSaid
-pub mod SeenPlace
+pub mod SeenAwaited
 pub mod Next

@@ -1,13 +1,13 @@
 -- What the step that comes next does with the later answers.
 use Rattle.std.specs.Prelude.{⊤, ◌≡◌, ◌<◌, ℕ, List, [], ◌∷◌, Bool}
 use Rattle.app_select.specs.Candidates.{CandidateData, candidates}
-use Rattle.app_select.specs.Leading.{rest_with, HasRoom, answers_left as search_answers_left, rest_of as selecting_rest}
+use Rattle.app_select.specs.Leading.{rest_with, HasRoomForCandidates, search_answers_left, selecting_rest}
 use Rattle.app_select.specs.Named.{HaveRows, all_named}
 use Rattle.app_select.specs.Selecting.{SelectedData}
 use Rattle.emv_dict.specs.Progress.{Progress, Wants, Stopped, Done, Leads}
 use Rattle.emv_dict.specs.declared.purchase.AidRow.{AidRow}
 use Rattle.pse_directory.specs.Directory.{done}
-use Rattle.pse_directory.specs.Left.{DirectoryData, directory_left, rest_of, answers_left}
+use Rattle.pse_directory.specs.Left.{DirectoryData, directory_left, directory_rest, directory_answers_left}
 use Rattle.pse_directory.specs.declared.listing.Answered.{Answered}
 use Rattle.pse_directory.specs.declared.listing.Answered.TheVariants as answered
 use Rattle.pse_directory.specs.declared.listing.DirectoryNext.{DirectoryNext}
@@ -22,15 +22,15 @@ answered_left rows confirm (answered.Found found) later = done (candidates confi
 answered_left rows confirm (answered.Ended cause) later = Stopped cause
 
 -- it goes on for the same terminal, at a later record; or each row of what it found is the terminal's
-abbrev pub GoesOn : DirectoryData → Answered → Type 0
-GoesOn state (answered.Ask later) = (later.rows ≡ state.rows) × (later.confirm ≡ state.confirm) × (answers_left later < answers_left state)
-GoesOn state (answered.Found found) = HaveRows state.rows found.items
-GoesOn state (answered.Ended cause) = ⊤
+abbrev pub ListingGoesOn : DirectoryData → Answered → Type 0
+ListingGoesOn state (answered.Ask later) = (later.rows ≡ state.rows) × (later.confirm ≡ state.confirm) × (directory_answers_left later < directory_answers_left state)
+ListingGoesOn state (answered.Found found) = HaveRows state.rows found.items
+ListingGoesOn state (answered.Ended cause) = ⊤
 
 -- with the candidates beside it, behind these answers the whole reads on, or goes on with the directory's candidates
 -- or with the list, or has stopped
 abbrev pub DirectoryNextLeads : List CandidateData → (List (List ℕ) → Progress SelectedData) → List (List ℕ) → DirectoryNext → Type 0
-DirectoryNextLeads candidates whole answers (lent.Ask state) = Leads whole answers (rest_of state)
+DirectoryNextLeads candidates whole answers (lent.Ask state) = Leads whole answers (directory_rest state)
 DirectoryNextLeads candidates whole answers (lent.Found search) = Leads whole answers (rest_with search candidates)
 DirectoryNextLeads candidates whole answers (lent.List search) = Leads whole answers (rest_with search candidates)
 DirectoryNextLeads candidates whole answers (lent.Ended cause) = Leads whole answers (λ _. Stopped cause)
@@ -47,20 +47,20 @@ DirectoryNextIs progress other = ⊥
 -- there is room for what the answers to come find
 abbrev pub DirectoryNextHasRoom : DirectoryNext → List CandidateData → Type 0
 DirectoryNextHasRoom (lent.Ask state) candidates = ⊤
-DirectoryNextHasRoom (lent.Found search) candidates = HasRoom search candidates
-DirectoryNextHasRoom (lent.List search) candidates = HasRoom search candidates
+DirectoryNextHasRoom (lent.Found search) candidates = HasRoomForCandidates search candidates
+DirectoryNextHasRoom (lent.List search) candidates = HasRoomForCandidates search candidates
 DirectoryNextHasRoom (lent.Ended cause) candidates = ⊤
 
 -- the most answers that are still taken
-abbrev pub answers_left_next : DirectoryNext → List CandidateData → ℕ
-answers_left_next (lent.Ask state) candidates = answers_left state
-answers_left_next (lent.Found search) candidates = search_answers_left search candidates
-answers_left_next (lent.List search) candidates = search_answers_left search candidates
-answers_left_next (lent.Ended cause) candidates = 0
+abbrev pub directory_answers_left_next : DirectoryNext → List CandidateData → ℕ
+directory_answers_left_next (lent.Ask state) candidates = directory_answers_left state
+directory_answers_left_next (lent.Found search) candidates = search_answers_left search candidates
+directory_answers_left_next (lent.List search) candidates = search_answers_left search candidates
+directory_answers_left_next (lent.Ended cause) candidates = 0
 
 -- the same where the candidates stand in the state
 abbrev pub ListNextLeads : (List (List ℕ) → Progress SelectedData) → List (List ℕ) → ListNext → Type 0
-ListNextLeads whole answers (next.Ask state) = Leads whole answers (rest_of state)
+ListNextLeads whole answers (next.Ask state) = Leads whole answers (directory_rest state)
 ListNextLeads whole answers (next.Found selecting) = Leads whole answers (selecting_rest selecting)
 ListNextLeads whole answers (next.List selecting) = Leads whole answers (selecting_rest selecting)
 ListNextLeads whole answers (next.Ended cause) = Leads whole answers (λ _. Stopped cause)

@@ -18,13 +18,13 @@ file_number (Some (sfi ∷ [])) = (if nat_le 1 sfi && nat_le sfi 10 then Some sf
 file_number (Some (sfi ∷ other ∷ bytes)) = None
 
 -- the first one among the objects of a proprietary template (A5)
-abbrev pub file_in : Result (List ItemData) TlvFault → Option ℕ
-file_in (Ok items) = file_number (first_value 0x88 items)
-file_in (Err fault) = None
+abbrev pub directory_file_in : Result (List ItemData) TlvFault → Option ℕ
+directory_file_in (Ok items) = file_number (first_value 0x88 items)
+directory_file_in (Err fault) = None
 
 abbrev pub file_in_proprietary : Option (List ℕ) → Option ℕ
 file_in_proprietary None = None
-file_in_proprietary (Some value) = file_in (items_of value)
+file_in_proprietary (Some value) = directory_file_in (items_of value)
 
 -- in the first such template of an FCI template (6F)
 abbrev pub file_in_items : Result (List ItemData) TlvFault → Option ℕ

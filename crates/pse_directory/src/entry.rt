@@ -7,8 +7,8 @@ ghost use Rattle.app_select.specs.Named.{HaveRows, all_named};
 ghost use Rattle.app_select.specs.Said.{is_supported as supports};
 ghost use Rattle.ber_tlv.specs.Left.{items_of};
 ghost use Rattle.pse_directory.specs.Entries as spec;
-ghost use Rattle.pse_directory.specs.Entries.{entry_in};
-ghost use Rattle.pse_directory.specs.Keeping.{with_entries, with_entry};
+ghost use Rattle.pse_directory.specs.Entries.{entries_in_template};
+ghost use Rattle.pse_directory.specs.Keeping.{with_entries, with_listed};
 
 use app_select::{Found, MOST_NAMES, is_supported};
 use arrayvec::ArrayVec;
@@ -25,9 +25,9 @@ const LEAST_NAME: usize = 5;
 /// can't be read.
 pub(crate) fn add_entry(rows: &[AidRow], entry: &[u8], found: &mut FoundList) -> Option<()>
     requires rows { HaveRows rows.now found.old.items }
-    ensures some { IfSome result (λ done. option_map (with_entries rows.now (all_named rows.now found.old.items)) (entry_in (items_of entry.now))
+    ensures some { IfSome result (λ done. option_map (with_entries rows.now (all_named rows.now found.old.items)) (entries_in_template (items_of entry.now))
         ≡ Some (all_named rows.now found.new.items)) }
-    ensures none { IfNone result (entry_in (items_of entry.now) ≡ None) }
+    ensures none { IfNone result (entries_in_template (items_of entry.now) ≡ None) }
     ensures rows { HaveRows rows.now found.new.items }
 {
     let Ok(name) = first_value(entry, Tag(0x4f)) else {
@@ -56,7 +56,7 @@ fn application_name(name: Option<&[u8]>) -> Option<Name>
 
 /// A priority indicator of another length than one byte counts as absent.
 fn one_byte(value: Option<&[u8]>) -> Option<u8>
-    ensures { result ≡ spec.one_byte (option_map (λ given. given.now) value.entry) }
+    ensures { result ≡ spec.priority_byte (option_map (λ given. given.now) value.entry) }
 {
     match value {
         Some([byte]) => Some(*byte),
@@ -68,7 +68,7 @@ fn one_byte(value: Option<&[u8]>) -> Option<u8>
 fn add(rows: &[AidRow], name: Name, priority: Option<u8>, found: &mut FoundList)
     requires { HaveRows rows.now found.old.items }
     ensures added { all_named rows.now found.new.items
-        ≡ with_entry rows.now (all_named rows.now found.old.items) (record { name = name; priority = priority }) }
+        ≡ with_listed rows.now (all_named rows.now found.old.items) (record { name = name; priority = priority }) }
     ensures rows { HaveRows rows.now found.new.items }
 {
     let Some(aid) = row_of(rows, &name) else {

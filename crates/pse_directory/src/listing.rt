@@ -5,7 +5,7 @@ ghost use Rattle.app_select.specs.Selecting.{SelectedData};
 ghost use Rattle.emv_dict.specs.Progress.{Progress, Wants, Leads};
 ghost use Rattle.emv_dict.specs.Settings.{IsSettings};
 ghost use Rattle.pse_directory.specs.Directory.{selecting_by};
-ghost use Rattle.pse_directory.specs.Left.{AtName, directory_left, rest_of, answers_left};
+ghost use Rattle.pse_directory.specs.Left.{AtName, directory_left, directory_rest, directory_answers_left};
 
 use crate::entry::FoundList;
 use crate::name::write_name;
@@ -28,7 +28,7 @@ pub(crate) struct Records {
 
 /// Which answer is to come.
 #[derive(Drop)]
-pub(crate) enum Place {
+pub(crate) enum Awaited {
     /// That to SELECT of the directory.
     Name,
     /// That for a record of it.
@@ -36,24 +36,24 @@ pub(crate) enum Place {
 }
 
 /// A terminal that reads the card's directory, and waits for an answer. What the directory's answers to come give is
-/// `directory_left`; with what follows them it is `rest_of`.
+/// `directory_left`; with what follows them it is `directory_rest`.
 #[derive(Drop)]
 pub struct Listing<'s> {
     settings: &'s Settings,
     confirm: bool,
-    place: Place,
+    place: Awaited,
 }
 
 impl<'s> Model for Listing<'s> {
     ghost use Rattle.emv_dict.specs.Settings.{IsSettings};
     ghost use Rattle.pse_directory.specs.Left.{DirectoryData};
-    ghost use Rattle.pse_directory.specs.SeenPlace.{seen_place, IsSound};
+    ghost use Rattle.pse_directory.specs.SeenAwaited.{seen_place, IsAwaitedInRange};
 
     ghost Value = { DirectoryData };
 
     ghost view = { λ l. record { rows = l.settings.now.aids; confirm = l.confirm; place = seen_place l.settings.now.aids l.place } };
 
-    ghost invariant = { λ l. IsSettings l.settings.now × IsSound l.settings.now.aids l.place };
+    ghost invariant = { λ l. IsSettings l.settings.now × IsAwaitedInRange l.settings.now.aids l.place };
 }
 
 /// How selection goes on behind an answer for the directory.
@@ -94,7 +94,7 @@ pub(crate) enum Answered<'s> {
 }
 
 impl<'s> Listing<'s> {
-    ghost use Rattle.pse_directory.specs.Next.{DirectoryNextLeads, DirectoryNextIs, DirectoryNextHasRoom, answers_left_next, ListNextLeads, ListNextIs};
+    ghost use Rattle.pse_directory.specs.Next.{DirectoryNextLeads, DirectoryNextIs, DirectoryNextHasRoom, directory_answers_left_next, ListNextLeads, ListNextIs};
 
     /// Begins selection for a terminal with these settings, which asks for the directory at first, and at which the
     /// cardholder can confirm an application, or can't.
@@ -102,12 +102,12 @@ impl<'s> Listing<'s> {
     pub fn begin(settings: &'s Settings, confirm: bool) -> Listing<'s>
         requires { IsSettings settings.now }
         ensures is { result ≡ record { rows = settings.entry.now.aids; confirm = confirm; place = AtName } }
-        ensures leads { Leads (selecting_by true settings.entry.now.aids confirm) [] (rest_of result) }
+        ensures leads { Leads (selecting_by true settings.entry.now.aids confirm) [] (directory_rest result) }
     {
         Listing {
             settings,
             confirm,
-            place: Place::Name,
+            place: Awaited::Name,
         }
     }
 
@@ -117,8 +117,8 @@ impl<'s> Listing<'s> {
         ensures wants { directory_left self.now [] ≡ Wants out.new.items }
     {
         match &self.place {
-            Place::Name => write_name(out),
-            Place::Record(records) => write_record_command(records.sfi, records.number, out),
+            Awaited::Name => write_name(out),
+            Awaited::Record(records) => write_record_command(records.sfi, records.number, out),
         }
     }
 
@@ -128,7 +128,7 @@ impl<'s> Listing<'s> {
     pub fn take(self, reply: &[u8]) -> ListNext<'s>
         ensures exact { ListNextIs (directory_left self.entry (reply.now ∷ [])) result }
         ensures leads { (whole : List (List ℕ) → Progress SelectedData) (answers : List (List ℕ))
-            → Leads whole answers (rest_of self.entry) → ListNextLeads whole (answers ++ reply.now ∷ []) result }
+            → Leads whole answers (directory_rest self.entry) → ListNextLeads whole (answers ++ reply.now ∷ []) result }
     {
         let settings = self.settings;
         let confirm = self.confirm;
@@ -143,10 +143,10 @@ impl<'s> Listing<'s> {
     pub fn take_into(self, candidates: &mut Candidates<'s>, reply: &[u8]) -> DirectoryNext<'s>
         ensures exact { DirectoryNextIs (directory_left self.entry (reply.now ∷ [])) result }
         ensures leads { (whole : List (List ℕ) → Progress SelectedData) (answers : List (List ℕ))
-            → Leads whole answers (rest_of self.entry) → DirectoryNextLeads candidates.new whole (answers ++ reply.now ∷ []) result }
+            → Leads whole answers (directory_rest self.entry) → DirectoryNextLeads candidates.new whole (answers ++ reply.now ∷ []) result }
         ensures room { DirectoryNextHasRoom result candidates.new }
         // Fewer answers are left to be taken.
-        ensures nearer { answers_left_next result candidates.new < answers_left self.entry }
+        ensures nearer { directory_answers_left_next result candidates.new < directory_answers_left self.entry }
     {
         let settings = self.settings;
         let confirm = self.confirm;

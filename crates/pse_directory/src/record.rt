@@ -16,7 +16,7 @@ use emv_dict::AidRow;
 
 /// What an answer for a record of the directory says.
 #[derive(Drop)]
-pub(crate) enum Told {
+pub(crate) enum RecordAnswer {
     /// It is no response.
     Unreadable,
     /// There is no such record.
@@ -29,34 +29,34 @@ pub(crate) enum Told {
 
 /// Reads the answer for a record, and takes its entries.
 #[tactic(auto, unfolding(crate::specs::Said::record_said))]
-pub(crate) fn read_record(rows: &[AidRow], reply: &[u8], found: &mut FoundList) -> Told
+pub(crate) fn read_record(rows: &[AidRow], reply: &[u8], found: &mut FoundList) -> RecordAnswer
     requires { HaveRows rows.now found.old.items }
     ensures told { RecordTold rows.now (all_named rows.now found.old.items) (all_named rows.now found.new.items) (record_said reply.now) result }
     ensures rows { HaveRows rows.now found.new.items }
 {
     let Ok(response) = read_response(reply) else {
-        return Told::Unreadable;
+        return RecordAnswer::Unreadable;
     };
     match response.status {
-        RECORD_NOT_FOUND => Told::Past,
+        RECORD_NOT_FOUND => RecordAnswer::Past,
         NO_ERROR => add_record(rows, response.body, found),
-        _ => Told::Faulty,
+        _ => RecordAnswer::Faulty,
     }
 }
 
 /// Takes the entries of a record: its body is one template 70.
-fn add_record(rows: &[AidRow], body: &[u8], found: &mut FoundList) -> Told
+fn add_record(rows: &[AidRow], body: &[u8], found: &mut FoundList) -> RecordAnswer
     requires { HaveRows rows.now found.old.items }
     ensures told { RecordTold rows.now (all_named rows.now found.old.items) (all_named rows.now found.new.items)
         (said_template (value_of 0x70 (items_of body.now))) result }
     ensures rows { HaveRows rows.now found.new.items }
 {
     let Some(template) = sole_value(body, Tag(0x70)) else {
-        return Told::Faulty;
+        return RecordAnswer::Faulty;
     };
     match add_entries(rows, template, found) {
-        Some(()) => Told::Added,
-        None => Told::Faulty,
+        Some(()) => RecordAnswer::Added,
+        None => RecordAnswer::Faulty,
     }
 }
 

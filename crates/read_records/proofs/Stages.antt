@@ -7,11 +7,11 @@ use Rattle.emv_dict.proofs.Steps.{leads_more, leads_now}
 use Rattle.emv_dict.specs.Progress.{Progress, Wants, Stopped, Done, Leads}
 use Rattle.emv_dict.specs.declared.ending.Cause.{Cause}
 use Rattle.env_map.specs.Entries.{Entries}
-use Rattle.object_lists.specs.CardRead.{ReadCard, card_of}
+use Rattle.object_lists.specs.CardRead.{ReadCard, card_of_objects}
 use Rattle.read_records.specs.Afl.{RecordPlace}
 use Rattle.object_lists.specs.Checked.{objects_fault}
 use Rattle.read_records.specs.DataRead.{card_unless, card_from, card_read, finished, read_on, reading}
-use Rattle.read_records.specs.Options.{Opened, Said, options_command, options_said, after_options, initiated}
+use Rattle.read_records.specs.Options.{Opened, OptionsSaid, options_command, options_said, after_options, initiated}
 use Rattle.read_records.specs.Records.{held_in, held_in_all, gathered_all}
 use Rattle.read_records.proofs.Gathering.{then_read, gathered_all-then}
 
@@ -32,11 +32,11 @@ unfolding initiated
 options_wanted whole answers given command is leads =
     leads_now whole (initiated given) answers leads ∙ ap (λ (bytes : List ℕ). let w : Progress (Option Opened) = Wants bytes in w) (sym is)
 
-pub options_told : (whole : List (List ℕ) → Progress (Option Opened)) (answers : List (List ℕ)) (given answer : List ℕ) (said : Said) → said ≡ options_said answer
+pub options_told : (whole : List (List ℕ) → Progress (Option Opened)) (answers : List (List ℕ)) (given answer : List ℕ) (said : OptionsSaid) → said ≡ options_said answer
     → Leads whole answers (initiated given) → Leads whole (answers ++ answer ∷ []) (after_options said)
 unfolding initiated
 options_told whole answers given answer said is leads =
-    leads_more whole (initiated given) (after_options said) answers answer leads (λ later. ap (λ (s : Said). after_options s later) (sym is))
+    leads_more whole (initiated given) (after_options said) answers answer leads (λ later. ap (λ (s : OptionsSaid). after_options s later) (sym is))
 
 pub record_wanted : (whole : List (List ℕ) → Progress ReadCard) (answers : List (List ℕ)) (entries : Entries) (place : RecordPlace) (left : List RecordPlace) (command : List ℕ)
     → command ≡ record_command place.sfi place.number → Leads whole answers (reading (record { entries = entries; left = place ∷ left })) → whole answers ≡ Wants command
@@ -88,7 +88,7 @@ reading-end entries [] = refl
 reading-end entries (answer ∷ later) = refl
 
 pub all_read : (whole : List (List ℕ) → Progress ReadCard) (answers : List (List ℕ)) (entries : Entries) → objects_fault entries ≡ None
-    → Leads whole answers (reading (record { entries = entries; left = [] })) → Leads whole answers (Done (card_of entries))
+    → Leads whole answers (reading (record { entries = entries; left = [] })) → Leads whole answers (Done (card_of_objects entries))
 all_read whole answers entries right leads later =
     leads later ∙ reading-end entries later ∙ ap (λ (fault : Option Cause). finished (card_unless entries fault) later) right
 

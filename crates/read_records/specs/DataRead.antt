@@ -8,14 +8,14 @@ use Rattle.emv_dict.specs.declared.ending.Cause.TheVariants.{Status}
 use Rattle.emv_dict.specs.declared.ending.Step.{Step}
 use Rattle.emv_dict.specs.declared.ending.Step.TheVariants.{Initiate, Read}
 use Rattle.env_map.specs.Entries.{Entries}
-use Rattle.object_lists.specs.CardRead.{ReadCard, card_of}
+use Rattle.object_lists.specs.CardRead.{ReadCard, card_of_objects}
 use Rattle.read_records.specs.Afl.{RecordPlace}
 use Rattle.object_lists.specs.Checked.{objects_fault}
-use Rattle.read_records.specs.Options.{Opened, Said, Refused, Granted, Faulty, options_said}
+use Rattle.read_records.specs.Options.{Opened, OptionsSaid, Refused, Granted, Faulty, options_said}
 use Rattle.read_records.specs.Records.{held_in_all, gathered_all}
 
 abbrev pub card_unless : Entries → Option Cause → Result ReadCard Cause
-card_unless entries None = Ok (card_of entries)
+card_unless entries None = Ok (card_of_objects entries)
 card_unless entries (Some cause) = Err cause
 
 -- what all objects make, or the first fault
@@ -32,7 +32,7 @@ at_step step (Ok value) = Ok value
 at_step step (Err cause) = Err (step, cause)
 
 -- an application that is refused gives no data
-abbrev pub data_from : Said → List (List ℕ) → Result ReadCard (Step × Cause)
+abbrev pub data_from : OptionsSaid → List (List ℕ) → Result ReadCard (Step × Cause)
 data_from Refused answers = Err (Initiate, Status conditions_not_satisfied)
 data_from (Faulty cause) answers = Err (Initiate, cause)
 data_from (Granted start) answers = at_step Read (card_read start answers)

@@ -2,7 +2,7 @@
 use Rattle.std.specs.Prelude.{⊤, ℕ, List, [], Option, Some, None}
 use Rattle.emv_dict.specs.Progress.{Progress, Stopped, Done, Leads}
 use Rattle.env_map.specs.Entries.{Entries}
-use Rattle.object_lists.specs.CardRead.{ReadCard, card_of}
+use Rattle.object_lists.specs.CardRead.{ReadCard, card_of_objects}
 use Rattle.read_records.specs.Afl.{RecordPlace}
 use Rattle.read_records.specs.DataRead.{reading}
 use Rattle.read_records.specs.Options.{Opened}
@@ -10,15 +10,15 @@ use Rattle.read_records.specs.declared.initiating.InitiateNext.{InitiateNext}
 use Rattle.read_records.specs.declared.initiating.InitiateNext.TheVariants as initiate
 use Rattle.read_records.specs.declared.initiating.OptionsNext.{OptionsNext}
 use Rattle.read_records.specs.declared.initiating.OptionsNext.TheVariants as options
-use Rattle.read_records.specs.declared.reading.CourseNext.{CourseNext}
-use Rattle.read_records.specs.declared.reading.CourseNext.TheVariants as course
+use Rattle.read_records.specs.declared.reading.RecordsNext.{RecordsNext}
+use Rattle.read_records.specs.declared.reading.RecordsNext.TheVariants as course
 use Rattle.read_records.specs.declared.reading.ReadNext.{ReadNext}
 use Rattle.read_records.specs.declared.reading.ReadNext.TheVariants as read
 
 -- behind these answers the whole is done with reading, stopped, or reads on over these objects
-abbrev pub CourseNextLeads : Entries → (List (List ℕ) → Progress ReadCard) → List (List ℕ) → CourseNext → Type 0
+abbrev pub CourseNextLeads : Entries → (List (List ℕ) → Progress ReadCard) → List (List ℕ) → RecordsNext → Type 0
 CourseNextLeads entries whole answers (course.Ask c) = Leads whole answers (reading (record { entries = entries; left = c }))
-CourseNextLeads entries whole answers course.Done = Leads whole answers (Done (card_of entries))
+CourseNextLeads entries whole answers course.Done = Leads whole answers (Done (card_of_objects entries))
 CourseNextLeads entries whole answers (course.Ended cause) = Leads whole answers (λ _. Stopped cause)
 
 abbrev pub ReadNextLeads : (List (List ℕ) → Progress ReadCard) → List (List ℕ) → ReadNext → Type 0
@@ -27,10 +27,10 @@ ReadNextLeads whole answers (read.Done card) = Leads whole answers (Done card)
 ReadNextLeads whole answers (read.Ended cause) = Leads whole answers (λ _. Stopped cause)
 
 -- the records that are left to be read
-abbrev pub left_next : CourseNext → List RecordPlace
-left_next (course.Ask c) = c
-left_next course.Done = []
-left_next (course.Ended cause) = []
+abbrev pub records_left_next : RecordsNext → List RecordPlace
+records_left_next (course.Ask c) = c
+records_left_next course.Done = []
+records_left_next (course.Ended cause) = []
 
 -- reading begins
 abbrev pub IsBegun : OptionsNext → Type 0

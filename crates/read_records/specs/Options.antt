@@ -6,7 +6,7 @@ use Rattle.apdu_core.specs.Status.{no_error, conditions_not_satisfied}
 use Rattle.ber_tlv.specs.Direct.{first_value, sole_value, template_fault}
 use Rattle.ber_tlv.specs.Item.{ItemData}
 use Rattle.ber_tlv.specs.Left.{items_of}
-use Rattle.ber_tlv.specs.Place.{place_or_zero}
+use Rattle.ber_tlv.specs.FaultPlace.{place_or_zero}
 use Rattle.ber_tlv.specs.Written.{written}
 use Rattle.ber_tlv.specs.declared.item.TlvFault.{TlvFault}
 use Rattle.emv_dict.specs.Progress.{Progress, Wants, Stopped, Done}
@@ -24,14 +24,14 @@ abbrev pub options_command : List ℕ → List ℕ
 options_command given = command_bytes (record { class = 0x80; ins = 0xA8; p1 = 0; p2 = 0; body = written 0x83 given; expects = Some 0 })
 
 -- the data of a list, where they have room in the command; the card has given no object yet
-abbrev pub filled : Entries → Result (List DolEntry) DolFault → Option (List ℕ)
-filled terminal (Ok dol) = (if nat_le (total_of dol) 252 then Some (dol_data dol [] terminal) else None)
-filled terminal (Err fault) = None
+abbrev pub filled_pdol : Entries → Result (List DolEntry) DolFault → Option (List ℕ)
+filled_pdol terminal (Ok dol) = (if nat_le (total_of dol) 252 then Some (dol_data dol [] terminal) else None)
+filled_pdol terminal (Err fault) = None
 
 -- the data of the object list (9F38), none where it cannot be read or filled; without a list no data
 abbrev pub options_data : Option (List ℕ) → Entries → Option (List ℕ)
 options_data None terminal = Some []
-options_data (Some list) terminal = (if nat_le (length list) 255 then filled terminal (dol_of list) else None)
+options_data (Some list) terminal = (if nat_le (length list) 255 then filled_pdol terminal (dol_of list) else None)
 
 -- what reading begins with: the objects so far, and the records to read
 pub record Opened : Type 0 where
@@ -43,60 +43,60 @@ opened_by profile locator (Ok groups) = Ok (record { entries = (0x82, profile) �
 opened_by profile locator (Err number) = Err (cause.Afl number)
 
 -- the application interchange profile (82) and the file locator (94)
-abbrev pub opened : List ℕ → List ℕ → Result Opened Cause
-opened profile locator = opened_by profile locator (groups_of locator)
+abbrev pub profile_and_locator : List ℕ → List ℕ → Result Opened Cause
+profile_and_locator profile locator = opened_by profile locator (groups_of locator)
 
 -- the value of format 1: two bytes of profile, then the locator
-abbrev pub in_format_one : List ℕ → Result Opened Cause
-in_format_one value = (if nat_lt (length value) 2 then Err (cause.Value (record { 0 = 0x80 })) else opened (take 2 value) (drop 2 value))
+abbrev pub options_in_format_one : List ℕ → Result Opened Cause
+options_in_format_one value = (if nat_lt (length value) 2 then Err (cause.Value (record { 0 = 0x80 })) else profile_and_locator (take 2 value) (drop 2 value))
 
 -- the two objects of format 2
-abbrev pub of_objects : Option (List ℕ) → Option (List ℕ) → Result Opened Cause
-of_objects None locator = Err (cause.Missing (record { 0 = 0x82 }))
-of_objects (Some profile) None = Err (cause.Missing (record { 0 = 0x94 }))
-of_objects (Some profile) (Some locator) =
-    if length profile == 2 then opened profile locator else Err (cause.Value (record { 0 = 0x82 }))
+abbrev pub options_of_objects : Option (List ℕ) → Option (List ℕ) → Result Opened Cause
+options_of_objects None locator = Err (cause.Missing (record { 0 = 0x82 }))
+options_of_objects (Some profile) None = Err (cause.Missing (record { 0 = 0x94 }))
+options_of_objects (Some profile) (Some locator) =
+    if length profile == 2 then profile_and_locator profile locator else Err (cause.Value (record { 0 = 0x82 }))
 
 -- the first fault among the body's objects and those directly in a template 77, or 0
 abbrev pub coding_cause : List ℕ → Cause
 coding_cause body = cause.Coding (place_or_zero (template_fault 0x77 body))
 
-abbrev pub in_format_two : List ℕ → Result (List ItemData) TlvFault → Result Opened Cause
-in_format_two body (Ok items) = of_objects (first_value 0x82 items) (first_value 0x94 items)
-in_format_two body (Err fault) = Err (coding_cause body)
+abbrev pub options_in_format_two : List ℕ → Result (List ItemData) TlvFault → Result Opened Cause
+options_in_format_two body (Ok items) = options_of_objects (first_value 0x82 items) (first_value 0x94 items)
+options_in_format_two body (Err fault) = Err (coding_cause body)
 
-abbrev pub by_format : List ℕ → Option (List ℕ) → Option (List ℕ) → Result Opened Cause
-by_format body (Some value) template = in_format_one value
-by_format body None (Some value) = in_format_two body (items_of value)
-by_format body None None = Err (coding_cause body)
+abbrev pub options_by_format : List ℕ → Option (List ℕ) → Option (List ℕ) → Result Opened Cause
+options_by_format body (Some value) template = options_in_format_one value
+options_by_format body None (Some value) = options_in_format_two body (items_of value)
+options_by_format body None None = Err (coding_cause body)
 
 -- the body is one object 80, format 1, or one template 77, format 2
 unfoldable pub options_in : List ℕ → Result Opened Cause
-options_in body = by_format body (sole_value 0x80 (items_of body)) (sole_value 0x77 (items_of body))
+options_in body = options_by_format body (sole_value 0x80 (items_of body)) (sole_value 0x77 (items_of body))
 
 -- what an answer says: the application is not to be used now, what reading begins with, or why the
 -- transaction ends
-pub data Said : Type 0 where
-  Refused : Said
-  Granted : Opened → Said
-  Faulty : Cause → Said
+pub data OptionsSaid : Type 0 where
+  Refused : OptionsSaid
+  Granted : Opened → OptionsSaid
+  Faulty : Cause → OptionsSaid
 
-abbrev pub granted_by : Result Opened Cause → Said
+abbrev pub granted_by : Result Opened Cause → OptionsSaid
 granted_by (Ok start) = Granted start
 granted_by (Err because) = Faulty because
 
-abbrev pub response_said : Option ResponseData → Said
+abbrev pub response_said : Option ResponseData → OptionsSaid
 response_said None = Faulty cause.Answer
 response_said (Some said) =
     if said.status == conditions_not_satisfied then Refused
     else if said.status == no_error then granted_by (options_in said.body)
     else Faulty (cause.Status said.status)
 
-unfoldable pub options_said : List ℕ → Said
+unfoldable pub options_said : List ℕ → OptionsSaid
 options_said answer = response_said (response_of answer)
 
 -- none: the application is refused
-abbrev pub after_options : Said → List (List ℕ) → Progress (Option Opened)
+abbrev pub after_options : OptionsSaid → List (List ℕ) → Progress (Option Opened)
 after_options Refused rest = Done None rest
 after_options (Granted start) rest = Done (Some start) rest
 after_options (Faulty because) rest = Stopped because

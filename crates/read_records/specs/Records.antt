@@ -7,7 +7,7 @@ use Rattle.apdu_core.specs.Status.{no_error}
 use Rattle.ber_tlv.specs.Direct.{sole_value}
 use Rattle.ber_tlv.specs.Item.{ItemData}
 use Rattle.ber_tlv.specs.Left.{items_of}
-use Rattle.ber_tlv.specs.Place.{place_of, place_or_zero}
+use Rattle.ber_tlv.specs.FaultPlace.{place_of_fault, place_or_zero}
 use Rattle.ber_tlv.specs.Walked.{walk_of, walk_fault}
 use Rattle.ber_tlv.specs.declared.item.TlvFault.{TlvFault}
 use Rattle.emv_dict.specs.declared.ending.Cause.{Cause}
@@ -26,7 +26,7 @@ pub record Held : Type 0 where
   pub fault : Option Cause
 
 abbrev pub coding_of : TlvFault → Cause
-coding_of fault = Coding (place_of fault)
+coding_of fault = Coding (place_of_fault fault)
 
 -- a record of the files 1 to 10 is one template 70
 abbrev pub in_template : Bool → List ℕ → Held
@@ -53,13 +53,13 @@ abbrev pub then_held : List ItemData → Option Cause → Held → Held
 then_held objects (Some cause) later = record { objects = objects; fault = Some cause }
 then_held objects None later = record { objects = objects ++ later.objects; fault = later.fault }
 
-abbrev pub joined : List Held → Held
-joined [] = record { objects = []; fault = None }
-joined (one ∷ later) = then_held one.objects one.fault (joined later)
+abbrev pub all_held : List Held → Held
+all_held [] = record { objects = []; fault = None }
+all_held (one ∷ later) = then_held one.objects one.fault (all_held later)
 
 -- what the answers for these records hold, as far as there are answers
 abbrev pub held_in_all : List RecordPlace → List (List ℕ) → Held
-held_in_all places answers = joined (map (λ read. held_in read.0.sfi read.1) (zip places answers))
+held_in_all places answers = all_held (map (λ read. held_in read.0.sfi read.1) (zip places answers))
 
 -- why an object is not taken
 abbrev pub cause_of_put : EnvFault → Cause
@@ -76,11 +76,11 @@ abbrev pub all_put : Entries → List ItemData → Result Entries Cause
 all_put entries [] = Ok entries
 all_put entries (item ∷ items) = then_put (put_of (record { 0 = item.tag }) item.value entries) (λ more. all_put more items)
 
-abbrev pub unless_fault : Option Cause → Result Entries Cause → Result Entries Cause
-unless_fault fault (Err cause) = Err cause
-unless_fault None (Ok entries) = Ok entries
-unless_fault (Some cause) (Ok entries) = Err cause
+abbrev pub data_unless_fault : Option Cause → Result Entries Cause → Result Entries Cause
+data_unless_fault fault (Err cause) = Err cause
+data_unless_fault None (Ok entries) = Ok entries
+data_unless_fault (Some cause) (Ok entries) = Err cause
 
 -- the map with all objects that are held, or the first fault
 abbrev pub gathered_all : Entries → Held → Result Entries Cause
-gathered_all entries held = unless_fault held.fault (all_put entries held.objects)
+gathered_all entries held = data_unless_fault held.fault (all_put entries held.objects)

@@ -7,7 +7,7 @@ ghost use Rattle.read_records.specs.Options.{Opened, initiated, initiating, opti
 ghost use Rattle.object_lists.specs.Filled.{dol_data};
 
 use crate::options::{Options, Said, read_answer};
-use crate::reading::{Course, Reading};
+use crate::reading::{Reading, RecordsToRead};
 use apdu_core::{Command, Out, write_command};
 use arrayvec::ArrayVec;
 use ber_tlv::{Tag, write_item};
@@ -43,7 +43,7 @@ pub enum OptionsNext {
     /// The application is not to be used now (status 6985).
     Refused,
     /// Its records are read.
-    Read(Course),
+    Read(RecordsToRead),
     /// The transaction ended for this cause.
     Ended(Cause),
 }
@@ -97,7 +97,7 @@ impl Initiating {
             Said::Refused => OptionsNext::Refused,
             Said::Granted(options) => {
                 put_options(env, &options);
-                OptionsNext::Read(Course::new(options.groups))
+                OptionsNext::Read(RecordsToRead::new(options.groups))
             }
             Said::Faulty(cause) => OptionsNext::Ended(cause),
         }

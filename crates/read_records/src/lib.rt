@@ -10,4 +10,4 @@ pub mod record;
 
 pub use initiating::{InitiateNext, Initiating, OptionsNext};
 pub use object_lists::CardData;
-pub use reading::{Course, CourseNext, CourseStep, ReadNext, Reading};
+pub use reading::{CourseStep, ReadNext, Reading, RecordsNext, RecordsToRead};

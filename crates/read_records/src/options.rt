@@ -2,8 +2,8 @@
 ghost use Rattle.std.specs.Prelude.{◌≡◌, ◌≤◌, ◌<◌, ℕ, List, length, Ok, Err, IfOk, IfSome, MatchResult, option_map};
 ghost use Rattle.ber_tlv.specs.Left.{items_of};
 ghost use Rattle.read_records.specs.Afl.{places_of, most_records};
-ghost use Rattle.read_records.specs.Options.{options_in, in_format_one, in_format_two, of_objects, coding_cause, opened, options_said};
-ghost use Rattle.read_records.specs.SeenOptions.{seen_options, seen_said, IsSound};
+ghost use Rattle.read_records.specs.Options.{options_in, options_in_format_one, options_in_format_two, options_of_objects, coding_cause, profile_and_locator, options_said};
+ghost use Rattle.read_records.specs.SeenOptions.{seen_options, seen_options_said, IsGrantedInRange};
 
 use crate::afl::{Groups, read_afl};
 use apdu_core::read_response;
@@ -36,8 +36,8 @@ pub(crate) enum Said<'a> {
 /// Reads an answer.
 #[tactic(auto, unfolding(crate::specs::Options::options_said))]
 pub(crate) fn read_answer(reply: &[u8]) -> Said<'_>
-    ensures exact { seen_said result ≡ options_said reply.now }
-    ensures sound { IsSound result }
+    ensures exact { seen_options_said result ≡ options_said reply.now }
+    ensures sound { IsGrantedInRange result }
 {
     let Ok(response) = read_response(reply) else {
         return Said::Faulty(Cause::Answer);
@@ -78,8 +78,8 @@ pub(crate) fn read_options(body: &[u8]) -> Result<Options<'_>, Cause>
 fn read_format_one(value: &[u8]) -> Result<Options<'_>, Cause>
     requires { length value.now < 256 }
     ensures exact { MatchResult result
-        (λ options. in_format_one value.now ≡ Ok (seen_options options))
-        (λ cause. in_format_one value.now ≡ Err cause) }
+        (λ options. options_in_format_one value.now ≡ Ok (seen_options options))
+        (λ cause. options_in_format_one value.now ≡ Err cause) }
     ensures some { IfOk result (λ options. 0 < length options.groups.items) }
     ensures short { IfOk result (λ options. length options.afl.now < 256) }
     ensures few { IfOk result (λ options. length (places_of options.groups.items) ≤ most_records) }
@@ -93,8 +93,8 @@ fn read_format_one(value: &[u8]) -> Result<Options<'_>, Cause>
 fn read_format_two<'a>(body: &[u8], template: &'a [u8]) -> Result<Options<'a>, Cause>
     requires { length template.now < 256 }
     ensures exact { MatchResult result
-        (λ options. in_format_two body.now (items_of template.now) ≡ Ok (seen_options options))
-        (λ cause. in_format_two body.now (items_of template.now) ≡ Err cause) }
+        (λ options. options_in_format_two body.now (items_of template.now) ≡ Ok (seen_options options))
+        (λ cause. options_in_format_two body.now (items_of template.now) ≡ Err cause) }
     ensures some { IfOk result (λ options. 0 < length options.groups.items) }
     ensures short { IfOk result (λ options. length options.afl.now < 256) }
     ensures few { IfOk result (λ options. length (places_of options.groups.items) ≤ most_records) }
@@ -111,8 +111,8 @@ fn read_format_two<'a>(body: &[u8], template: &'a [u8]) -> Result<Options<'a>, C
 fn of_objects<'a>(profile: Option<&[u8]>, locator: Option<&'a [u8]>) -> Result<Options<'a>, Cause>
     requires { IfSome (option_map (λ afl. afl.now) locator) (λ afl. length afl < 256) }
     ensures exact { MatchResult result
-        (λ options. of_objects (option_map (λ p. p.now) profile.entry) (option_map (λ l. l.now) locator.entry) ≡ Ok (seen_options options))
-        (λ cause. of_objects (option_map (λ p. p.now) profile.entry) (option_map (λ l. l.now) locator.entry) ≡ Err cause) }
+        (λ options. options_of_objects (option_map (λ p. p.now) profile.entry) (option_map (λ l. l.now) locator.entry) ≡ Ok (seen_options options))
+        (λ cause. options_of_objects (option_map (λ p. p.now) profile.entry) (option_map (λ l. l.now) locator.entry) ≡ Err cause) }
     ensures some { IfOk result (λ options. 0 < length options.groups.items) }
     ensures short { IfOk result (λ options. length options.afl.now < 256) }
     ensures few { IfOk result (λ options. length (places_of options.groups.items) ≤ most_records) }
@@ -132,8 +132,8 @@ fn of_objects<'a>(profile: Option<&[u8]>, locator: Option<&'a [u8]>) -> Result<O
 fn with_groups(aip: [u8; 2], afl: &[u8]) -> Result<Options<'_>, Cause>
     requires { length afl.now < 256 }
     ensures exact { MatchResult result
-        (λ options. opened aip afl.now ≡ Ok (seen_options options))
-        (λ cause. opened aip afl.now ≡ Err cause) }
+        (λ options. profile_and_locator aip afl.now ≡ Ok (seen_options options))
+        (λ cause. profile_and_locator aip afl.now ≡ Err cause) }
     ensures some { IfOk result (λ options. 0 < length options.groups.items) }
     ensures short { IfOk result (λ options. length options.afl.now < 256) }
     ensures few { IfOk result (λ options. length (places_of options.groups.items) ≤ most_records) }

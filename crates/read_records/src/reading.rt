@@ -22,12 +22,12 @@ use std::marker::Model;
 /// The records that are still to be read, at least one. The objects so far stand beside it, in a map that
 /// each answer is taken into. Contracts see the places of the records.
 #[derive(Drop)]
-pub struct Course {
+pub struct RecordsToRead {
     current: Group,
     later: Groups,
 }
 
-impl Model for Course {
+impl Model for RecordsToRead {
     ghost use Rattle.std.specs.Prelude.{List};
     ghost use Rattle.read_records.specs.Afl.{RecordPlace};
 
@@ -40,9 +40,9 @@ impl Model for Course {
 
 /// What reading does next.
 #[derive(Drop)]
-pub enum CourseNext {
+pub enum RecordsNext {
     /// It asks for a record.
-    Ask(Course),
+    Ask(RecordsToRead),
     /// All records are read, and their objects are as they must be.
     Done,
     /// It ended for this cause.
@@ -60,18 +60,18 @@ pub enum CourseStep {
     Ended(Cause),
 }
 
-impl Course {
-    ghost use Rattle.read_records.specs.Leading.{CourseNextLeads, left_next};
+impl RecordsToRead {
+    ghost use Rattle.read_records.specs.Leading.{CourseNextLeads, records_left_next};
     ghost use Rattle.read_records.specs.Stepping.{next_with};
 
     /// The course through the records of these groups, at least one.
-    pub(crate) fn new(groups: Groups) -> Course
+    pub(crate) fn new(groups: Groups) -> RecordsToRead
         requires { 0 < length groups.items }
         ensures { result ≡ places_of groups.items }
     {
         let mut later = groups;
         let current = later.remove(0);
-        Course { current, later }
+        RecordsToRead { current, later }
     }
 
     /// The command for the next record.
@@ -85,21 +85,21 @@ impl Course {
     }
 
     /// Takes the answer to it, and puts its objects into the map.
-    pub fn take(self, env: &mut Env, reply: &[u8]) -> CourseNext
+    pub fn take(self, env: &mut Env, reply: &[u8]) -> RecordsNext
         requires { HasOptions env.old }
         ensures leads { (whole : List (List ℕ) → Progress ReadCard) (answers : List (List ℕ))
             → Leads whole answers (reading (record { entries = env.old; left = self }))
             → CourseNextLeads env.new whole (answers ++ reply.now ∷ []) result }
         ensures options { HasOptions env.new }
-        ensures forms { result ≡ CourseNext.Done → HasForms env.new }
+        ensures forms { result ≡ RecordsNext.Done → HasForms env.new }
         // Fewer records are left.
-        ensures nearer { length (left_next result) < length self }
+        ensures nearer { length (records_left_next result) < length self }
     {
         let mut course = self;
         match course.go_on(env, reply) {
-            CourseStep::Ask => CourseNext::Ask(course),
-            CourseStep::Done => CourseNext::Done,
-            CourseStep::Ended(cause) => CourseNext::Ended(cause),
+            CourseStep::Ask => RecordsNext::Ask(course),
+            CourseStep::Done => RecordsNext::Done,
+            CourseStep::Ended(cause) => RecordsNext::Ended(cause),
         }
     }
 
@@ -112,10 +112,10 @@ impl Course {
         ensures options { HasOptions env.new }
         ensures forms { result ≡ CourseStep.Done → HasForms env.new }
         // Fewer records are left.
-        ensures nearer { length (left_next (next_with result self.new)) < length self.old }
+        ensures nearer { length (records_left_next (next_with result self.new)) < length self.old }
     {
         match read_record(self.current.file / 8, env, reply) {
-            Ok(()) => Course::advance(env, &mut self.current, &mut self.later),
+            Ok(()) => RecordsToRead::advance(env, &mut self.current, &mut self.later),
             Err(cause) => CourseStep::Ended(cause),
         }
     }
@@ -127,7 +127,7 @@ impl Course {
             → Leads whole answers (reading (record { entries = env.now; left = places_from (current.old.file / 8) (current.old.first + 1) (current.old.last - current.old.first) ++ places_of later.old.items }))
             → CourseNextLeads env.now whole answers (next_with result (places_with current.new later.new.items)) }
         ensures forms { result ≡ CourseStep.Done → HasForms env.now }
-        ensures left { length (left_next (next_with result (places_with current.new later.new.items)))
+        ensures left { length (records_left_next (next_with result (places_with current.new later.new.items)))
             ≤ length (places_from (current.old.file / 8) (current.old.first + 1) (current.old.last - current.old.first) ++ places_of later.old.items) }
     {
         if current.first < current.last {
@@ -135,7 +135,7 @@ impl Course {
             return CourseStep::Ask;
         }
         if later.is_empty() {
-            Course::finish(env)
+            RecordsToRead::finish(env)
         } else {
             *current = later.remove(0);
             CourseStep::Ask
@@ -150,7 +150,7 @@ impl Course {
             → Leads whole answers (reading (record { entries = env.now; left = [] }))
             → CourseNextLeads env.now whole answers (next_with result left) }
         ensures forms { result ≡ CourseStep.Done → HasForms env.now }
-        ensures left { (left : List RecordPlace) → left_next (next_with result left) ≡ [] }
+        ensures left { (left : List RecordPlace) → records_left_next (next_with result left) ≡ [] }
     {
         match objects_fault(env) {
             None => CourseStep::Done,
@@ -183,7 +183,7 @@ pub fn steps_give_data()
 #[derive(Drop)]
 pub struct Reading {
     env: Env,
-    course: Course,
+    course: RecordsToRead,
 }
 
 impl Model for Reading {
@@ -212,7 +212,7 @@ pub enum ReadNext {
 impl Reading {
     ghost use Rattle.read_records.specs.Leading.{ReadNextLeads};
 
-    pub(crate) fn new(env: Env, course: Course) -> Reading
+    pub(crate) fn new(env: Env, course: RecordsToRead) -> Reading
         requires { HasOptions env }
         ensures { result ≡ record { entries = env; left = course } }
     {
@@ -234,9 +234,9 @@ impl Reading {
     {
         let Reading { mut env, course } = self;
         match course.take(&mut env, reply) {
-            CourseNext::Ask(course) => ReadNext::Ask(Reading { env, course }),
-            CourseNext::Done => ReadNext::Done(CardData::new(env)),
-            CourseNext::Ended(cause) => ReadNext::Ended(cause),
+            RecordsNext::Ask(course) => ReadNext::Ask(Reading { env, course }),
+            RecordsNext::Done => ReadNext::Done(CardData::new(env)),
+            RecordsNext::Ended(cause) => ReadNext::Ended(cause),
         }
     }
 }

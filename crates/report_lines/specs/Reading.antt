@@ -1,7 +1,7 @@
 -- The line of a report that a text is.
 use Rattle.std.specs.Prelude.{ℕ, ◌==◌, Bool, ◌&&◌, ◌||◌, not, nat_lt, nat_le, if◌then◌else◌, List, [], length, drop, take, slice_index, codes, Option, Some, None, option_map, option_and_then}
 use Rattle.std.specs.Str.{bytes_eq}
-use Rattle.report_lines.specs.Pieces.{split_word, number_of}
+use Rattle.report_lines.specs.Parts.{split_word, decimal_number}
 use Rattle.report_lines.specs.declared.ending.Ending.{Ending}
 use Rattle.report_lines.specs.declared.ending.Ending.TheVariants as of_ending
 use Rattle.report_lines.specs.declared.ending.EndFields.{EndFields}
@@ -24,14 +24,14 @@ seen_ending (of_ending.Terminated step cause detail) = Terminated step.now cause
 seen_ending (of_ending.Cut step) = Cut step.now
 
 -- the fields of an end line
-pub record FieldsData : Type 0 where
+pub record EndLineFields : Type 0 where
   pub tvr : List ℕ
   pub tsi : List ℕ
   pub cvm : List ℕ
   pub arc : List ℕ
   pub scripts : List ℕ
 
-abbrev pub seen_fields : EndFields → FieldsData
+abbrev pub seen_fields : EndFields → EndLineFields
 seen_fields f = record { tvr = f.tvr.now; tsi = f.tsi.now; cvm = f.cvm.now; arc = f.arc.now; scripts = f.scripts.now }
 
 -- whose a line is
@@ -51,7 +51,7 @@ pub data WhatData : Type 0 where
   Power : List ℕ → List ℕ → WhatData
   PowerTorn PowerCanned Sent Given ToHost FromHost : List ℕ → WhatData
   Torn Gone NoReply Balance Done : WhatData
-  End : ℕ → EndingData → FieldsData → WhatData
+  End : ℕ → EndingData → EndLineFields → WhatData
   Lost Refused Differs : ℕ → WhatData
   Object : List ℕ → List ℕ → WhatData
   ReadEnded : EndingData → WhatData
@@ -120,7 +120,7 @@ abbrev pub field_in : List ℕ → List ℕ → Option (List ℕ × List ℕ)
 field_in name text = let word = split_word text in option_map (λ value. (value, word.1)) (behind name word.0)
 
 -- `tvr=.. tsi=.. cvm=.. arc=.. atc=.. ac=.. scripts=..`
-unfoldable pub fields_in : List ℕ → Option FieldsData
+unfoldable pub fields_in : List ℕ → Option EndLineFields
 fields_in text =
     option_and_then (λ tvr.
     option_and_then (λ tsi.
@@ -139,7 +139,7 @@ fields_in text =
 
 -- the number of one of 16 lanes
 abbrev pub lane_in : List ℕ → Option ℕ
-lane_in text = option_and_then (λ number. if nat_lt number 16 then Some number else None) (number_of text)
+lane_in text = option_and_then (λ number. if nat_lt number 16 then Some number else None) (decimal_number text)
 
 -- a text that begins with this mark and a blank
 abbrev pub is_marked : ℕ → List ℕ → Bool
@@ -160,8 +160,8 @@ power_in card state =
     else if is_word state (codes "canned") then Some (PowerCanned card)
     else Some (Power card state)
 
-abbrev pub card_in : List ℕ → Option WhatData
-card_in text =
+abbrev pub card_line_in : List ℕ → Option WhatData
+card_line_in text =
     if is_word text (codes "< torn") then Some Torn
     else if is_word text (codes "< gone") then Some Gone
     else exchange_in text
@@ -178,8 +178,8 @@ ended_in number text =
     if is_word text (codes "lost") then Some (Lost number)
     else option_and_then (λ ended. option_map (λ fields. End number ended.0 fields) (fields_in ended.1)) (ending_in text)
 
-abbrev pub end_in : List ℕ → Option WhatData
-end_in text = let word = split_word text in option_and_then (λ number. ended_in number word.1) (number_of word.0)
+abbrev pub end_line_in : List ℕ → Option WhatData
+end_line_in text = let word = split_word text in option_and_then (λ number. ended_in number word.1) (decimal_number word.0)
 
 abbrev pub of_lane : List ℕ → Option WhatData
 of_lane text =
@@ -187,22 +187,22 @@ of_lane text =
     let next = split_word word.1 in
     if is_word word.0 (codes "power") then power_in next.0 next.1
     else if is_word word.0 (codes "host") then host_in word.1
-    else if is_word word.0 (codes "end") then end_in word.1
-    else card_in text
+    else if is_word word.0 (codes "end") then end_line_in word.1
+    else card_line_in text
 
 -- a line of the audit: the state of the card of this name, or what was sent to it or given
 abbrev pub of_audit : List ℕ → List ℕ → Option WhatData
 of_audit card text = let word = split_word text in if is_word word.0 (codes "power") then power_in card word.1 else exchange_in text
 
 abbrev pub check_in : List ℕ → Option WhatData
-check_in text = let word = split_word text in if is_word word.0 (codes "differs") then option_map Differs (number_of word.1) else None
+check_in text = let word = split_word text in if is_word word.0 (codes "differs") then option_map Differs (decimal_number word.1) else None
 
-abbrev pub of_report : List ℕ → List ℕ → Option WhatData
-of_report word rest =
+abbrev pub report_line_in : List ℕ → List ℕ → Option WhatData
+report_line_in word rest =
     let next = split_word rest in
     if is_word word (codes "object") then Some (Object next.0 next.1)
     else if is_word word (codes "read") then option_map (λ ended. ReadEnded ended.0) (ending_in rest)
-    else if is_word word (codes "refused") then option_map Refused (number_of next.0)
+    else if is_word word (codes "refused") then option_map Refused (decimal_number next.0)
     else if is_word word (codes "check") then check_in rest
     else if is_word word (codes "balance") then Some Balance
     else if is_word word (codes "done") then Some Done
@@ -224,4 +224,4 @@ line_in text =
     else if slice_index word.0 0 == 83 && nat_lt 1 (length word.0)
     then option_and_then (λ lane. with_whose (Settlement lane) (exchange_in word.1)) (lane_in (drop 1 word.0))
     else if is_word word.0 (codes "A") then audit_in word.1
-    else with_whose Report (of_report word.0 word.1)
+    else with_whose Report (report_line_in word.0 word.1)

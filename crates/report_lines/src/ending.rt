@@ -3,7 +3,7 @@
 ghost use Rattle.std.specs.Prelude.{◌≡◌, not, option_map};
 ghost use Rattle.report_lines.specs.Reading as spec;
 
-use crate::pieces::split_word;
+use crate::parts::split_word;
 
 /// How a payment ended.
 #[derive(Clone, Copy)]

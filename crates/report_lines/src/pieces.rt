@@ -1,83 +1,40 @@
-//! The pieces of a line.
-ghost use Rattle.std.specs.Prelude.{◌≡◌, ◌+◌, ◌<◌, ◌≤◌, ◌==◌, length, position, IfSome};
-ghost use Rattle.std.specs.List.{list_all};
-ghost use Rattle.report_lines.specs.Pieces as spec;
+//! Numbers and bytes as text.
+ghost use Rattle.std.specs.Prelude.{◌≡◌, ◌<◌};
+ghost use Rattle.report_lines.specs.Hex.{digit_text};
+ghost use Rattle.report_lines.specs.Pieces as piece;
+ghost use Rattle.report_lines.specs.Pieces.{Tells};
 
-/// The place of the first byte of this value.
-fn place_of(text: &[u8], mark: u8) -> Option<usize>
-    ensures place { result ≡ position (λ byte. byte == mark) text.now }
-    ensures within { IfSome result (λ place. place < length text.now) }
-{
-    text.iter().position(|byte| *byte == mark)
-}
+use crate::WordLines;
+use itoa::Buffer;
 
-/// What stands before the first byte of this value, and what stands behind it; all and nothing where there
-/// is none.
-fn split_at_byte(text: &[u8], mark: u8) -> (&[u8], &[u8])
-    ensures before { result.0.now ≡ (spec.split_at mark text.now).0 }
-    ensures behind { result.1.now ≡ (spec.split_at mark text.now).1 }
-    ensures within { length result.0.now + length result.1.now ≤ length text.now }
-    ensures nearer { 0 < length text.now → length result.1.now < length text.now }
+/// The hexadecimal digit of a number from 0 to 15, in upper case.
+fn digit(number: u8) -> u8
+    requires { number < 16 }
+    ensures { result ≡ digit_text number }
 {
-    match place_of(text, mark) {
-        Some(place) => (&text[..place], &text[place + 1..]),
-        None => (text, &[]),
+    if number < 10 {
+        number + b'0'
+    } else {
+        number - 10 + b'A'
     }
 }
 
-/// The first word, up to a blank, and what stands behind the blank.
-pub fn split_word(text: &[u8]) -> (&[u8], &[u8])
-    ensures before { result.0.now ≡ (spec.split_word text.now).0 }
-    ensures behind { result.1.now ≡ (spec.split_word text.now).1 }
-    ensures within { length result.0.now + length result.1.now ≤ length text.now }
-    ensures nearer { 0 < length text.now → length result.1.now < length text.now }
-{
-    split_at_byte(text, b' ')
-}
-
-/// What stands before the first comma, and what stands behind it.
-pub fn split_at_comma(text: &[u8]) -> (&[u8], &[u8])
-    ensures before { result.0.now ≡ (spec.split_comma text.now).0 }
-    ensures behind { result.1.now ≡ (spec.split_comma text.now).1 }
-    ensures within { length result.0.now + length result.1.now ≤ length text.now }
-{
-    split_at_byte(text, b',')
-}
-
-/// Whether a byte is a decimal digit.
-fn is_digit(byte: u8) -> bool
-    ensures { result ≡ spec.is_digit byte }
-{
-    b'0' <= byte && byte <= b'9'
-}
-
-/// The number of these decimal digits.
-fn digits_number(digits: &[u8]) -> u64
-    ensures { result ≡ spec.digits_number digits.now }
-{
-    let mut number: u64 = 0;
-    for digit in digits {
-        number = number
-            .saturating_mul(10)
-            .saturating_add(u64::from(digit.saturating_sub(b'0')));
+impl WordLines {
+    /// Appends a number in decimal to the open line, or to a new one.
+    pub fn number(&mut self, number: u64)
+        ensures { Tells self.old self.new (piece.number number) }
+    {
+        let mut buffer = Buffer::new();
+        self.text(buffer.format(number).as_bytes());
     }
-    number
-}
 
-/// Whether each byte is a decimal digit.
-fn are_digits(text: &[u8]) -> bool
-    ensures { result ≡ list_all spec.is_digit text.now }
-{
-    text.iter().all(|byte| is_digit(*byte))
-}
-
-/// The number that a text of 1 to 18 decimal digits writes.
-#[tactic(auto, unfolding(crate::specs::Pieces::number_of))]
-pub fn number_of(text: &[u8]) -> Option<u64>
-    ensures { result ≡ spec.number_of text.now }
-{
-    if text.is_empty() || text.len() > 18 || !are_digits(text) {
-        return None;
+    /// Appends bytes in upper-case hexadecimal to the open line, or to a new one.
+    pub fn hex(&mut self, bytes: &[u8])
+        ensures { Tells self.old self.new (piece.hex bytes.now) }
+    {
+        self.text(b"");
+        for byte in bytes {
+            self.text(&[digit(*byte / 16), digit(*byte % 16)]);
+        }
     }
-    Some(digits_number(text))
 }

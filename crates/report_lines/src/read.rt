@@ -5,7 +5,7 @@ ghost use Rattle.report_lines.specs.Reading as spec;
 
 use crate::ending::{read_ending, read_fields};
 use crate::line::{ReportLine, What, Whose};
-use crate::pieces::{number_of, split_word};
+use crate::parts::{number_of, split_word};
 
 /// A line of a report, without its newline; `None` where it is none. There are lanes 0 to 15.
 #[tactic(auto, unfolding(crate::specs::Reading::line_in))]
@@ -63,7 +63,7 @@ fn read_of_lane(text: &[u8]) -> Option<What<'_>>
 
 /// What a line of the talk with the card tells.
 fn read_of_card(text: &[u8]) -> Option<What<'_>>
-    ensures { option_map spec.seen_what result ≡ spec.card_in text.now }
+    ensures { option_map spec.seen_what result ≡ spec.card_line_in text.now }
 {
     if text == b"< torn".as_slice() {
         Some(What::Torn)
@@ -123,7 +123,7 @@ fn read_host(text: &[u8]) -> Option<What<'_>>
 
 /// What an end line tells.
 fn read_end(text: &[u8]) -> Option<What<'_>>
-    ensures { option_map spec.seen_what result ≡ spec.end_in text.now }
+    ensures { option_map spec.seen_what result ≡ spec.end_line_in text.now }
 {
     let (word, rest) = split_word(text);
     let number = number_of(word)?;
@@ -165,7 +165,7 @@ fn read_of_audit(text: &[u8]) -> Option<ReportLine<'_>>
 
 /// What a line without lane and card tells.
 fn read_of_report<'a>(word: &[u8], rest: &'a [u8]) -> Option<What<'a>>
-    ensures { option_map spec.seen_what result ≡ spec.of_report word.now rest.now }
+    ensures { option_map spec.seen_what result ≡ spec.report_line_in word.now rest.now }
 {
     if word == b"object".as_slice() {
         let (tag, value) = split_word(rest);

@@ -5,7 +5,7 @@ use Rattle.report_text.specs.declared.line.Line.{Line}
 use Rattle.report_text.specs.declared.line.Line.TheVariants as line
 use Rattle.report_text.specs.declared.head.Head.{Head}
 use Rattle.report_text.specs.declared.head.Head.TheVariants as head
-use Rattle.report_text.specs.declared.head.Place.{Place}
+use Rattle.report_text.specs.declared.head.LinePlace.{LinePlace}
 
 -- contracts see the lines as a list
 pub record LinesData : Type 0 where
@@ -32,21 +32,21 @@ line_at (head.AuditAsk card) bytes = line.AuditAsk card (record { items = bytes 
 line_at (head.AuditAnswer card) bytes = line.AuditAnswer card (record { items = bytes })
 
 -- the line says how a purchase ended, or that it was lost
-abbrev pub is_end : Line → Bool
-is_end (line.End lane number parts) = true
-is_end (line.EndLost lane number) = true
-is_end other = false
+abbrev pub is_end_line : Line → Bool
+is_end_line (line.End lane number parts) = true
+is_end_line (line.EndLost lane number) = true
+is_end_line other = false
 
 -- each line has the next of the bytes, as many as its place says
-abbrev pub lines_at : List Place → List ℕ → List Line
+abbrev pub lines_at : List LinePlace → List ℕ → List Line
 lines_at [] bytes = []
 lines_at (place ∷ places) bytes = line_at place.head (take place.count bytes) ∷ lines_at places (drop place.count bytes)
 
-abbrev pub count_of_bytes : List Place → ℕ
-count_of_bytes [] = 0
-count_of_bytes (place ∷ places) = place.count + count_of_bytes places
+abbrev pub packed_length : List LinePlace → ℕ
+packed_length [] = 0
+packed_length (place ∷ places) = place.count + packed_length places
 
 -- the bytes are those of the lines, and no line has too many
-pub record IsFilled (places : List Place) (bytes : List ℕ) : Type 0 where
-  pub filled : count_of_bytes places ≡ length bytes
+pub record IsFilled (places : List LinePlace) (bytes : List ℕ) : Type 0 where
+  pub filled : packed_length places ≡ length bytes
   pub short : AllByRecursion (λ place. place.count ≤ 2048) places

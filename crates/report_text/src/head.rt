@@ -73,7 +73,7 @@ impl Default for Head {
 
 /// A line's head, and how many bytes are the line's.
 #[derive(Drop, Default)]
-pub(crate) struct Place {
+pub(crate) struct LinePlace {
     pub head: Head,
     pub count: u16,
 }

@@ -1,9 +1,9 @@
 //! The lines of an event in one place: heads, and one room for the bytes of all of them.
 ghost use Rattle.std.specs.Prelude.{◌≡◌, ◌<◌, ◌≤◌, ◌++◌, [], ◌∷◌, length, MatchOption};
 ghost use Rattle.report_text.specs.declared.line.Line.TheVariants as line;
-ghost use Rattle.report_text.specs.Packed.{line_at, is_end};
+ghost use Rattle.report_text.specs.Packed.{line_at, is_end_line};
 
-use crate::head::{Head, Place};
+use crate::head::{Head, LinePlace};
 use crate::{EndParts, Shown};
 use arrayvec::ArrayVec;
 use ber_tlv::append;
@@ -12,7 +12,7 @@ use std::marker::Model;
 /// At most eight lines, with at most 2,048 bytes each. Contracts see them as a list.
 #[derive(Drop)]
 pub struct Lines {
-    places: ArrayVec<Place, 8>,
+    places: ArrayVec<LinePlace, 8>,
     bytes: ArrayVec<u8, 16384>,
 }
 
@@ -213,7 +213,7 @@ impl Lines {
         ensures { self.new.items ≡ self.old.items ++ line_at head bytes.now ∷ [] }
     {
         append(&mut self.bytes, bytes);
-        self.places.push(Place {
+        self.places.push(LinePlace {
             head,
             count: bytes.len() as u16,
         });
@@ -242,7 +242,7 @@ impl<'a> Model for LineAt<'a> {
 impl<'a> LineAt<'a> {
     /// Whether the line says how a purchase ended, or that it was lost.
     pub fn is_end(&self) -> bool
-        ensures { result ≡ is_end self.now }
+        ensures { result ≡ is_end_line self.now }
     {
         match self.head {
             Head::End { .. } | Head::EndLost { .. } => true,
@@ -254,7 +254,7 @@ impl<'a> LineAt<'a> {
 /// Lines that are left to be read. Contracts see them as a list.
 #[derive(Drop)]
 pub struct LinesLeft<'a> {
-    places: &'a [Place],
+    places: &'a [LinePlace],
     bytes: &'a [u8],
 }
 

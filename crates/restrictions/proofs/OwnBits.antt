@@ -6,7 +6,7 @@ use Rattle.emv_dict.specs.Flags.{bits_where, tvr_bit}
 use Rattle.emv_dict.specs.Views.{SettingsData, PurchaseData}
 use Rattle.emv_dict.specs.declared.purchase.AidRow.{AidRow}
 use Rattle.object_lists.specs.CardRead.{ReadCard}
-use Rattle.restrictions.specs.Laws.{own_bits, AreOwn}
+use Rattle.restrictions.specs.Laws.{restriction_bits, AreRestrictionBits}
 use Rattle.restrictions.specs.Restricted.{restricted, versions_differ, service_not_allowed, not_yet_effective, expired}
 
 -- bits that add none to others are among them
@@ -16,7 +16,7 @@ among bits own same place =
     omega arith
 
 -- whichever of the four hold
-whichever : (a b c d : Bool) → bit_or (bits_where ((a, tvr_bit 2 8) ∷ (b, tvr_bit 2 5) ∷ (c, tvr_bit 2 6) ∷ (d, tvr_bit 2 7) ∷ [])) own_bits ≡ own_bits
+whichever : (a b c d : Bool) → bit_or (bits_where ((a, tvr_bit 2 8) ∷ (b, tvr_bit 2 5) ∷ (c, tvr_bit 2 6) ∷ (d, tvr_bit 2 7) ∷ [])) restriction_bits ≡ restriction_bits
 whichever true true true true = refl
 whichever true true true false = refl
 whichever true true false true = refl
@@ -34,7 +34,7 @@ whichever false false true false = refl
 whichever false false false true = refl
 whichever false false false false = refl
 
-pub restricted_own : (card : ReadCard) (settings : SettingsData) (row : AidRow) (purchase : PurchaseData) → AreOwn (restricted card settings row purchase)
+pub restricted_own : (card : ReadCard) (settings : SettingsData) (row : AidRow) (purchase : PurchaseData) → AreRestrictionBits (restricted card settings row purchase)
 unfolding restricted
 restricted_own card settings row purchase =
-    among _ own_bits (whichever (versions_differ card row) (service_not_allowed card settings purchase) (not_yet_effective card purchase) (expired card purchase))
+    among _ restriction_bits (whichever (versions_differ card row) (service_not_allowed card settings purchase) (not_yet_effective card purchase) (expired card purchase))

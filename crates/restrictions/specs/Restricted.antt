@@ -11,13 +11,13 @@ use Rattle.object_lists.specs.CardRead.{ReadCard}
 use Rattle.restrictions.specs.Usage.{allows_terminal, allows_trade}
 
 -- bytes that are there and are others than these
-abbrev pub is_other : List ℕ → Option (List ℕ) → Bool
-is_other own None = false
-is_other own (Some given) = not (bytes_eq given own)
+abbrev pub is_other_than : List ℕ → Option (List ℕ) → Bool
+is_other_than own None = false
+is_other_than own (Some given) = not (bytes_eq given own)
 
 -- the card's application version number (9F08) is there and is not the terminal's
 unfoldable pub versions_differ : ReadCard → AidRow → Bool
-versions_differ card row = is_other row.version (value_of 0x9F08 card.entries)
+versions_differ card row = is_other_than row.version (value_of 0x9F08 card.entries)
 
 -- where the issuer's country is given, the service must be allowed there or abroad
 abbrev pub allows_country : List ℕ → Option (List ℕ) → SettingsData → PurchaseData → Bool
@@ -32,10 +32,10 @@ refuses (Some usage) issuer settings purchase = not (allows_terminal usage && al
 unfoldable pub service_not_allowed : ReadCard → SettingsData → PurchaseData → Bool
 service_not_allowed card settings purchase = refuses (value_of 0x9F07 card.entries) (value_of 0x5F28 card.entries) settings purchase
 
-abbrev pub is_before : Option Date → Option Date → Bool
-is_before (Some a) (Some b) = is_earlier a b
-is_before (Some a) None = false
-is_before None b = false
+abbrev pub is_date_before : Option Date → Option Date → Bool
+is_date_before (Some a) (Some b) = is_earlier a b
+is_date_before (Some a) None = false
+is_date_before None b = false
 
 -- the day of an object, where it is there
 abbrev pub day_in : ℕ → ReadCard → Option Date
@@ -43,11 +43,11 @@ day_in tag card = option_and_then date_of (value_of tag card.entries)
 
 -- the purchase is before the application effective date (5F25), where that is there
 unfoldable pub not_yet_effective : ReadCard → PurchaseData → Bool
-not_yet_effective card purchase = is_before (date_of purchase.date) (day_in 0x5F25 card)
+not_yet_effective card purchase = is_date_before (date_of purchase.date) (day_in 0x5F25 card)
 
 -- the purchase is behind the application expiration date (5F24)
 unfoldable pub expired : ReadCard → PurchaseData → Bool
-expired card purchase = is_before (day_in 0x5F24 card) (date_of purchase.date)
+expired card purchase = is_date_before (day_in 0x5F24 card) (date_of purchase.date)
 
 -- the bits of the terminal verification results whose condition holds
 unfoldable pub restricted : ReadCard → SettingsData → AidRow → PurchaseData → ℕ

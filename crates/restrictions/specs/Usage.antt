@@ -5,24 +5,24 @@ use Rattle.std.specs.Prelude.{ℕ, ◌-◌, ◌^◌, ◌==◌, Bool, not, ◌&&�
 use Rattle.emv_dict.specs.Views.{PurchaseData}
 
 -- the bit of this byte and number stands
-abbrev pub has_bit : List ℕ → ℕ → ℕ → Bool
-has_bit usage byte bit = not (bit_and (slice_index usage (byte - 1)) (2 ^ (bit - 1)) == 0)
+abbrev pub has_usage : List ℕ → ℕ → ℕ → Bool
+has_usage usage byte bit = not (bit_and (slice_index usage (byte - 1)) (2 ^ (bit - 1)) == 0)
 
 -- terminals other than cash machines
 abbrev pub allows_terminal : List ℕ → Bool
-allows_terminal usage = has_bit usage 1 1
+allows_terminal usage = has_usage usage 1 1
 
 abbrev pub allows_cash : List ℕ → Bool → Bool
-allows_cash usage domestic = (if domestic then has_bit usage 1 8 else has_bit usage 1 7)
+allows_cash usage domestic = (if domestic then has_usage usage 1 8 else has_usage usage 1 7)
 
 abbrev pub allows_goods : List ℕ → Bool → Bool
-allows_goods usage domestic = (if domestic then has_bit usage 1 6 else has_bit usage 1 5)
+allows_goods usage domestic = (if domestic then has_usage usage 1 6 else has_usage usage 1 5)
 
 abbrev pub allows_services : List ℕ → Bool → Bool
-allows_services usage domestic = (if domestic then has_bit usage 1 4 else has_bit usage 1 3)
+allows_services usage domestic = (if domestic then has_usage usage 1 4 else has_usage usage 1 3)
 
 abbrev pub allows_cashback : List ℕ → Bool → Bool
-allows_cashback usage domestic = (if domestic then has_bit usage 2 8 else has_bit usage 2 7)
+allows_cashback usage domestic = (if domestic then has_usage usage 2 8 else has_usage usage 2 7)
 
 -- goods or services, whichever are bought
 abbrev pub allows_bought : List ℕ → Bool → Bool → Bool

@@ -5,8 +5,8 @@
 ghost use Rattle.std.specs.Prelude.{◌≡◌, option_and_then, option_map, length, IsTrue};
 ghost use Rattle.std.specs.Option.{ForSome};
 ghost use Rattle.emv_dict.specs.Date.{date_of};
-ghost use Rattle.object_lists.specs.Forms.{is_day};
-ghost use Rattle.restrictions.specs.Laws.{AreOwn};
+ghost use Rattle.object_lists.specs.Forms.{is_date_value};
+ghost use Rattle.restrictions.specs.Laws.{AreRestrictionBits};
 ghost use Rattle.restrictions.specs.Restricted as spec;
 
 mod usage;
@@ -22,7 +22,7 @@ use usage::Usage;
 pub fn restrict(card: &CardData, settings: &Settings, row: &AidRow, purchase: &Purchase) -> Tvr
     ensures bits { result.0 ≡ spec.restricted card.now settings.now row.now purchase.now }
     // No bit of another step stands.
-    ensures own { AreOwn result.0 }
+    ensures own { AreRestrictionBits result.0 }
 {
     Tvr::of_conditions(&[
         (versions_differ(card, row), Tvr::VERSIONS_DIFFER),
@@ -82,7 +82,7 @@ fn is_expired(card: &CardData, purchase: &Purchase) -> bool
 
 /// Whether both days are given and the first is the earlier one.
 fn is_before(first: Option<Date>, second: Option<Date>) -> bool
-    ensures { result ≡ spec.is_before first second }
+    ensures { result ≡ spec.is_date_before first second }
 {
     match (first, second) {
         (Some(first), Some(second)) => first.is_before(&second),

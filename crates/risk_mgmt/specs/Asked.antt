@@ -18,8 +18,8 @@ rest_by Counter bits lower upper = first_asked bits lower upper
 rest_by (LastOnline counter) bits lower upper = last_asked bits lower upper counter
 
 -- what the rest makes of the answers to come
-abbrev pub rest_of : JudgingData → List (List ℕ) → Progress Judged
-rest_of state = rest_by state.asking state.bits state.lower state.upper
+abbrev pub judging_rest : JudgingData → List (List ℕ) → Progress Judged
+judging_rest state = rest_by state.asking state.bits state.lower state.upper
 
 -- how many counters are still asked for
 abbrev pub counters_by : Asking → ℕ

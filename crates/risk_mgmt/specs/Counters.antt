@@ -21,24 +21,24 @@ unfoldable pub get_data : ℕ → List ℕ
 get_data tag = command_bytes (record { class = 0x80; ins = 0xCA; p1 = tag / 256; p2 = tag % 256; body = []; expects = Some 0 })
 
 -- the number of two bytes
-abbrev pub number_of : List ℕ → Option ℕ
-number_of [] = None
-number_of (high ∷ []) = None
-number_of (high ∷ low ∷ []) = Some (high * 256 + low)
-number_of (high ∷ low ∷ other ∷ more) = None
+abbrev pub number_of_two : List ℕ → Option ℕ
+number_of_two [] = None
+number_of_two (high ∷ []) = None
+number_of_two (high ∷ low ∷ []) = Some (high * 256 + low)
+number_of_two (high ∷ low ∷ other ∷ more) = None
 
 -- a response gives a counter where its status is good and its data are one object of that tag with two bytes
-abbrev pub counter_in : ℕ → ResponseData → Option ℕ
-counter_in tag response =
-    if response.status == no_error then option_and_then number_of (sole_value tag (items_of response.body)) else None
+abbrev pub counter_in_response : ℕ → ResponseData → Option ℕ
+counter_in_response tag response =
+    if response.status == no_error then option_and_then number_of_two (sole_value tag (items_of response.body)) else None
 
 abbrev pub counter_if : ℕ → Option ResponseData → Result (Option ℕ) Cause
-counter_if tag (Some response) = Ok (counter_in tag response)
+counter_if tag (Some response) = Ok (counter_in_response tag response)
 counter_if tag None = Err Answer
 
 -- the counter that an answer gives, if it gives one
-unfoldable pub counter_of : ℕ → List ℕ → Result (Option ℕ) Cause
-counter_of tag reply = counter_if tag (response_of reply)
+unfoldable pub counter_in_answer : ℕ → List ℕ → Result (Option ℕ) Cause
+counter_in_answer tag reply = counter_if tag (response_of reply)
 
 -- more transactions than the limit since the last one online, or a counter that isn't above the last online one
 abbrev pub is_beyond : ℕ → Option ℕ → Option ℕ → Bool
@@ -47,15 +47,15 @@ is_beyond limit (Some counter) None = true
 is_beyond limit None last = true
 
 -- the card was never online
-abbrev pub is_new : Option ℕ → Bool
-is_new (Some last) = last == 0
-is_new None = false
+abbrev pub is_new_card : Option ℕ → Bool
+is_new_card (Some last) = last == 0
+is_new_card None = false
 
 -- the bits that stand already, and those of the two counters against the lower and the upper limit
-unfoldable pub counted : ℕ → ℕ → ℕ → Option ℕ → Option ℕ → ℕ
-counted bits lower upper counter last = bits_where (
+unfoldable pub counter_bits : ℕ → ℕ → ℕ → Option ℕ → Option ℕ → ℕ
+counter_bits bits lower upper counter last = bits_where (
     (true, bits)
     ∷ (not (is_some counter && is_some last), tvr_bit 1 6)
     ∷ (is_beyond lower counter last, tvr_bit 4 7)
     ∷ (is_beyond upper counter last, tvr_bit 4 6)
-    ∷ (is_new last, tvr_bit 2 4) ∷ [])
+    ∷ (is_new_card last, tvr_bit 2 4) ∷ [])

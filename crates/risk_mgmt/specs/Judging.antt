@@ -2,14 +2,14 @@
 use Rattle.std.specs.Prelude.{ℕ, List, Option}
 use Rattle.emv_dict.specs.Progress.{Progress, Leads, Stopped, Done}
 use Rattle.emv_dict.specs.declared.judged.Judged.{Judged}
-use Rattle.risk_mgmt.specs.Asked.{rest_of, counters_by}
+use Rattle.risk_mgmt.specs.Asked.{judging_rest, counters_by}
 use Rattle.risk_mgmt.specs.declared.judging.JudgeNext.{JudgeNext}
 use Rattle.risk_mgmt.specs.declared.judging.JudgeNext.TheVariants as next
 
-abbrev pub NextLeads : (List (List ℕ) → Progress Judged) → List (List ℕ) → JudgeNext → Type 0
-NextLeads whole answers (next.Ask judging) = Leads whole answers (rest_of judging)
-NextLeads whole answers (next.Done judged) = Leads whole answers (λ later. Done judged later)
-NextLeads whole answers (next.Ended cause) = Leads whole answers (λ _. Stopped cause)
+abbrev pub JudgeNextLeads : (List (List ℕ) → Progress Judged) → List (List ℕ) → JudgeNext → Type 0
+JudgeNextLeads whole answers (next.Ask judging) = Leads whole answers (judging_rest judging)
+JudgeNextLeads whole answers (next.Done judged) = Leads whole answers (λ later. Done judged later)
+JudgeNextLeads whole answers (next.Ended cause) = Leads whole answers (λ _. Stopped cause)
 
 abbrev pub counters_left : JudgeNext → ℕ
 counters_left (next.Ask judging) = counters_by judging.asking

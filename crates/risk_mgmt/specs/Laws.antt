@@ -11,20 +11,20 @@ use Rattle.risk_mgmt.specs.Risky.{risky}
 
 -- the bits of this step (EMV 4.3 Book 3 Annex C5), the five bytes of the terminal verification results one behind
 -- another: bits 6 and 5 of the first byte, 4 of the second, 8 to 4 of the fourth
-abbrev pub own_bits : ℕ
-own_bits = 0x300800F800
+abbrev pub risk_bits : ℕ
+risk_bits = 0x300800F800
 
 -- no bit stands outside them, at whichever place, counted from 0 at the right
-abbrev pub AreOwn : ℕ → Type 0
-AreOwn bits = (place : ℕ) → bit_at bits place ≤ bit_at own_bits place
+abbrev pub AreRiskBits : ℕ → Type 0
+AreRiskBits bits = (place : ℕ) → bit_at bits place ≤ bit_at risk_bits place
 
 -- no other bit is found
-abbrev pub FindsOwn : Progress Judged → Type 0
-FindsOwn (Wants command) = ⊤
-FindsOwn (Stopped cause) = ⊤
-FindsOwn (Done judged rest) = AreOwn judged.tvr.0
+abbrev pub FindsRiskBits : Progress Judged → Type 0
+FindsRiskBits (Wants command) = ⊤
+FindsRiskBits (Stopped cause) = ⊤
+FindsRiskBits (Done judged rest) = AreRiskBits judged.tvr.0
 
-abbrev pub BitsAreOwn : Type 0
-BitsAreOwn =
+abbrev pub RiskBitsAreOwn : Type 0
+RiskBitsAreOwn =
     (card : ReadCard) (settings : SettingsData) (row : AidRow) (purchase : PurchaseData) (log : List Logged) (answers : List (List ℕ))
-    → FindsOwn (risky card settings row purchase log answers)
+    → FindsRiskBits (risky card settings row purchase log answers)

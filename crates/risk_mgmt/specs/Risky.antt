@@ -11,7 +11,7 @@ use Rattle.emv_dict.specs.declared.purchase.AidRow.{AidRow}
 use Rattle.emv_dict.specs.declared.purchase.Logged.{Logged}
 use Rattle.env_map.specs.Entries.{Entries, value_of}
 use Rattle.object_lists.specs.CardRead.{ReadCard}
-use Rattle.risk_mgmt.specs.Counters.{counter_tag, last_online_tag, get_data, counter_of, counted}
+use Rattle.risk_mgmt.specs.Counters.{counter_tag, last_online_tag, get_data, counter_in_answer, counter_bits}
 use Rattle.risk_mgmt.specs.Selected.{is_selected}
 
 -- terminal types 22, 23, 25 and 26: a merchant's terminal that may decide offline (EMV 4.3 Book 4 Annex A1)
@@ -44,24 +44,24 @@ unfoldable pub always : List ℕ → SettingsData → PurchaseData → ℕ
 always pan settings purchase = bits_where ((is_exception pan settings.exceptions, tvr_bit 1 5) ∷ (purchase.forced, tvr_bit 4 4) ∷ [])
 
 -- those with the bits that the terminal finds alone
-unfoldable pub alone : List ℕ → SettingsData → AidRow → PurchaseData → List Logged → ℕ
-alone pan settings row purchase log = bits_where (
+unfoldable pub terminal_bits : List ℕ → SettingsData → AidRow → PurchaseData → List Logged → ℕ
+terminal_bits pan settings row purchase log = bits_where (
     (true, always pan settings purchase)
     ∷ (exceeds_floor pan settings row purchase log, tvr_bit 4 8)
     ∷ (is_drawn settings row purchase, tvr_bit 4 5) ∷ [])
 
 -- what risk management finds
-abbrev pub found : ℕ → Bool → Judged
-found bits performed = record { tvr = record { 0 = bits }; performed = performed }
+abbrev pub judged_with : ℕ → Bool → Judged
+judged_with bits performed = record { tvr = record { 0 = bits }; performed = performed }
 
 abbrev pub last_by : ℕ → ℕ → ℕ → Option ℕ → Result (Option ℕ) Cause → List (List ℕ) → Progress Judged
-last_by bits lower upper counter (Ok last) rest = Done (found (counted bits lower upper counter last) true) rest
+last_by bits lower upper counter (Ok last) rest = Done (judged_with (counter_bits bits lower upper counter last) true) rest
 last_by bits lower upper counter (Err cause) rest = Stopped cause
 
 -- the last online counter is asked for
 unfoldable pub last_asked : ℕ → ℕ → ℕ → Option ℕ → List (List ℕ) → Progress Judged
 last_asked bits lower upper counter [] = Wants (get_data last_online_tag)
-last_asked bits lower upper counter (reply ∷ rest) = last_by bits lower upper counter (counter_of last_online_tag reply) rest
+last_asked bits lower upper counter (reply ∷ rest) = last_by bits lower upper counter (counter_in_answer last_online_tag reply) rest
 
 abbrev pub first_by : ℕ → ℕ → ℕ → Result (Option ℕ) Cause → List (List ℕ) → Progress Judged
 first_by bits lower upper (Ok counter) rest = last_asked bits lower upper counter rest
@@ -70,7 +70,7 @@ first_by bits lower upper (Err cause) rest = Stopped cause
 -- the counter is asked for, then the last online one
 unfoldable pub first_asked : ℕ → ℕ → ℕ → List (List ℕ) → Progress Judged
 first_asked bits lower upper [] = Wants (get_data counter_tag)
-first_asked bits lower upper (reply ∷ rest) = first_by bits lower upper (counter_of counter_tag reply) rest
+first_asked bits lower upper (reply ∷ rest) = first_by bits lower upper (counter_in_answer counter_tag reply) rest
 
 -- a limit of one byte, where the card gives it
 abbrev pub limit_in : ℕ → Entries → Option ℕ
@@ -79,19 +79,19 @@ limit_in tag entries = option_map (λ value. slice_index value 0) (value_of tag 
 -- velocity checking, where the card gives both limits (9F14 and 9F23)
 abbrev pub by_limits : ℕ → Option ℕ → Option ℕ → List (List ℕ) → Progress Judged
 by_limits bits (Some lower) (Some upper) answers = first_asked bits lower upper answers
-by_limits bits (Some lower) None answers = Done (found bits true) answers
-by_limits bits None upper answers = Done (found bits true) answers
+by_limits bits (Some lower) None answers = Done (judged_with bits true) answers
+by_limits bits None upper answers = Done (judged_with bits true) answers
 
 -- the checks that a card asks for, b4 of its application interchange profile
-unfoldable pub checked : ReadCard → SettingsData → AidRow → PurchaseData → List Logged → List (List ℕ) → Progress Judged
-checked card settings row purchase log answers =
+unfoldable pub risk_checks : ReadCard → SettingsData → AidRow → PurchaseData → List Logged → List (List ℕ) → Progress Judged
+risk_checks card settings row purchase log answers =
     if may_decide settings.kind
-    then by_limits (alone card.pan settings row purchase log) (limit_in 0x9F14 card.entries) (limit_in 0x9F23 card.entries) answers
-    else Done (found (alone card.pan settings row purchase log) true) answers
+    then by_limits (terminal_bits card.pan settings row purchase log) (limit_in 0x9F14 card.entries) (limit_in 0x9F23 card.entries) answers
+    else Done (judged_with (terminal_bits card.pan settings row purchase log) true) answers
 
 -- the bits of risk management whose condition holds, over all answers of a card
 unfoldable pub risky : ReadCard → SettingsData → AidRow → PurchaseData → List Logged → List (List ℕ) → Progress Judged
 risky card settings row purchase log answers =
     if bit_and (slice_index card.aip 0) 0x08 == 0
-    then Done (found (always card.pan settings purchase) false) answers
-    else checked card settings row purchase log answers
+    then Done (judged_with (always card.pan settings purchase) false) answers
+    else risk_checks card settings row purchase log answers

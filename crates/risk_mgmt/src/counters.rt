@@ -31,9 +31,9 @@ pub(crate) fn write_get_data(tag: Tag, out: &mut Out)
 }
 
 /// The counter that an answer gives, if it gives one; the cause where it can't be read.
-#[tactic(auto, unfolding(crate::specs::Counters::counter_of))]
+#[tactic(auto, unfolding(crate::specs::Counters::counter_in_answer))]
 pub(crate) fn read_counter(tag: Tag, reply: &[u8]) -> Result<Option<u16>, Cause>
-    ensures { result ≡ spec.counter_of tag.0 reply.now }
+    ensures { result ≡ spec.counter_in_answer tag.0 reply.now }
 {
     let Ok(response) = read_response(reply) else {
         return Err(Cause::Answer);
@@ -48,7 +48,7 @@ pub(crate) fn read_counter(tag: Tag, reply: &[u8]) -> Result<Option<u16>, Cause>
 }
 
 /// The flags that stand already, and those of the two counters against the limits.
-#[tactic(auto, unfolding(crate::specs::Counters::counted))]
+#[tactic(auto, unfolding(crate::specs::Counters::counter_bits))]
 pub(crate) fn counted(
     tvr: Tvr,
     lower: u8,
@@ -56,7 +56,7 @@ pub(crate) fn counted(
     counter: Option<u16>,
     last: Option<u16>,
 ) -> Tvr
-    ensures { result.0 ≡ spec.counted tvr.0 lower upper counter last }
+    ensures { result.0 ≡ spec.counter_bits tvr.0 lower upper counter last }
 {
     Tvr::of_conditions(&[
         (true, tvr),

@@ -3,8 +3,8 @@ ghost use Rattle.std.specs.List.{All};
 ghost use Rattle.emv_dict.specs.Progress.{Progress, Leads, Wants};
 ghost use Rattle.emv_dict.specs.Settings.{IsAidRow, most_amount};
 ghost use Rattle.object_lists.specs.Forms.{HasIfThere, has_count};
-ghost use Rattle.risk_mgmt.specs.Asked.{rest_of, counters_by};
-ghost use Rattle.risk_mgmt.specs.Judging.{NextLeads, counters_left};
+ghost use Rattle.risk_mgmt.specs.Asked.{judging_rest, counters_by};
+ghost use Rattle.risk_mgmt.specs.Judging.{JudgeNextLeads, counters_left};
 ghost use Rattle.risk_mgmt.specs.Risky as spec;
 
 use crate::counters::{COUNTER, LAST_ONLINE, counted, read_counter, write_get_data};
@@ -26,7 +26,7 @@ pub enum Asking {
 }
 
 /// Terminal risk management that waits for an answer of the card. What the rest of it makes of the
-/// answers to come is `rest_of`.
+/// answers to come is `judging_rest`.
 #[derive(Drop)]
 pub struct Judging {
     tvr: Tvr,
@@ -57,7 +57,7 @@ pub enum JudgeNext {
 impl Judging {
     /// Begins terminal risk management of a purchase with this card in this application of the
     /// terminal. `log` are earlier purchases, the latest one last.
-    #[tactic(auto, unfolding(crate::specs::Risky::risky, crate::specs::Risky::checked))]
+    #[tactic(auto, unfolding(crate::specs::Risky::risky, crate::specs::Risky::risk_checks))]
     pub fn begin(
         card: &CardData,
         settings: &Settings,
@@ -68,7 +68,7 @@ impl Judging {
         requires row { IsAidRow row.now }
         requires amount { purchase.now.amount ≤ most_amount }
         requires log { All (λ logged. logged.amount ≤ most_amount) log.now }
-        ensures leads { NextLeads (spec.risky card.now settings.now row.now purchase.now log.now) [] result }
+        ensures leads { JudgeNextLeads (spec.risky card.now settings.now row.now purchase.now log.now) [] result }
         ensures few { counters_left result ≤ 2 }
     {
         let pan = card.pan.as_slice();
@@ -103,7 +103,7 @@ impl Judging {
     /// Writes the command that the card is to answer, in place of what `out` held.
     #[tactic(auto, unfolding(crate::specs::Risky::first_asked, crate::specs::Risky::last_asked))]
     pub fn ask(&self, out: &mut Out)
-        ensures { rest_of self.now [] ≡ Wants out.new.items }
+        ensures { judging_rest self.now [] ≡ Wants out.new.items }
     {
         match self.asking {
             Asking::Counter => write_get_data(COUNTER, out),
@@ -114,7 +114,7 @@ impl Judging {
     /// Goes on with the card's answer.
     pub fn take(self, reply: &[u8]) -> JudgeNext
         ensures leads { (whole : List (List ℕ) → Progress Judged) (answers : List (List ℕ))
-            → Leads whole answers (rest_of self) → NextLeads whole (answers ++ reply.now ∷ []) result }
+            → Leads whole answers (judging_rest self) → JudgeNextLeads whole (answers ++ reply.now ∷ []) result }
         // Fewer counters are left to be asked for.
         ensures nearer { counters_left result < counters_by self.asking }
     {
@@ -163,12 +163,12 @@ fn always(pan: &[u8], settings: &Settings, purchase: &Purchase) -> Tvr
 }
 
 /// Those, and the flags that the terminal finds without the card.
-#[tactic(auto, unfolding(crate::specs::Risky::alone))]
+#[tactic(auto, unfolding(crate::specs::Risky::terminal_bits))]
 fn alone(pan: &[u8], settings: &Settings, row: &AidRow, purchase: &Purchase, log: &[Logged]) -> Tvr
     requires row { IsAidRow row.now }
     requires amount { purchase.now.amount ≤ most_amount }
     requires log { All (λ logged. logged.amount ≤ most_amount) log.now }
-    ensures { result.0 ≡ spec.alone pan.now settings.now row.now purchase.now log.now }
+    ensures { result.0 ≡ spec.terminal_bits pan.now settings.now row.now purchase.now log.now }
 {
     Tvr::of_conditions(&[
         (true, always(pan, settings, purchase)),

@@ -16,10 +16,10 @@ use Rattle.scenario_fields.specs.declared.fault.ScenarioFault.{ScenarioFault}
 use Rattle.emv_dict.specs.Pan.{least_pan, most_pan}
 use Rattle.emv_dict.specs.Settings.{most_amount}
 use Rattle.scenario_fields.specs.Fields.{number_at, flag_or, text_at, digits_at, optional_digits, code_at, array_at, table_item, only}
-use Rattle.scenario_fields.specs.Place.{at_top, in_account, in_card, item_path}
+use Rattle.scenario_fields.specs.TablePaths.{at_top, in_account, in_card, item_path}
 use Rattle.scenario.proofs.CardParts.{not_true}
 use Rattle.scenario.specs.Accounts.{has_pan, new_pan, scripts_at, method_at, status_at, account_keys, account_of, account_item, accounts_from}
-use Rattle.scenario.specs.Cards.{CardData, is_named, new_card_name, card_of, card_keys, card_item, cards_from, cards_at, kind_at}
+use Rattle.scenario.specs.Cards.{CardData, is_name_used, new_card_name, card_of, card_keys, card_item, cards_from, cards_at, card_kind_at}
 use Rattle.scenario.specs.Plan.{HasPlainName, HaveOwnPans}
 
 differ : (xs ys : List ℕ) → bytes_eq xs ys ≡ false → xs ≢ ys
@@ -90,7 +90,7 @@ plain_name : (i : ℕ) (earlier : List CardData) (ms : Members) (name : List ℕ
 unfolding new_card_name
 plain_name i earlier ms name is =
     let text = then_ok (text_at (in_card i) (codes "name") LowercaseOrDigit 1 16 ms) _ name is in
-    let fresh = kept (not (is_named text.0 earlier)) _ text.0 name text.2 in
+    let fresh = kept (not (is_name_used text.0 earlier)) _ text.0 name text.2 in
     let found = text_at_ok (in_card i) (codes "name") LowercaseOrDigit 1 16 ms text.0 text.1 in
     rw (← fresh.1) found.2
 
@@ -99,7 +99,7 @@ unfolding card_item card_of
 plainly_named i keys earlier d card is =
     let table = then_ok (table_of (item_path (codes "card") i []) d) _ card is in
     let name = then_ok (new_card_name i earlier table.0) _ card table.2 in
-    let kind = then_ok (kind_at i keys table.0) _ card name.2 in
+    let kind = then_ok (card_kind_at i keys table.0) _ card name.2 in
     let known = then_ok (only (in_card i) card_keys table.0) _ card kind.2 in
     rw (← ok_is _ card known.2) (plain_name i earlier table.0 name.0 name.1)
 

@@ -5,9 +5,9 @@ use Rattle.card_files.specs.AppRules.{is_second_code}
 use Rattle.card_files.specs.Views.{AppData, ImageData}
 use Rattle.issuer_host.specs.declared.keys.HostKeys.{HostKeys}
 use Rattle.toml.specs.Data.{Members}
-use Rattle.scenario_fields.specs.Fault.{◌>>=◌, keep_if, Tells, Fails}
+use Rattle.scenario_fields.specs.Fault.{◌>>=◌, keep_if, TellsFault, Fails}
 use Rattle.scenario_fields.specs.Fields.{optional_code, absent}
-use Rattle.scenario_fields.specs.Place.{in_card}
+use Rattle.scenario_fields.specs.TablePaths.{in_card}
 use Rattle.scenario_fields.specs.declared.fault.ScenarioFault.{ScenarioFault}
 use Rattle.scenario_fields.specs.declared.fault.ScenarioFault.TheVariants.{Toml, MissingKey, BadValue, OutOfLimit, UnknownKey, UnknownName, OutOfMemory}
 use Rattle.scenario.specs.Cards.{KindData, apps_at, version_at, directory_at, image_kind}
@@ -22,7 +22,7 @@ refuses true e x is = cc
 refuses false e x is = refl
 
 -- a fault that was made is that of what is read
-pub tells_fails : {Y : Type 0} (made fault : ScenarioFault) (read : Result Y ScenarioFault) → Tells made fault → read ≡ Err fault → Fails made read
+pub tells_fails : {Y : Type 0} (made fault : ScenarioFault) (read : Result Y ScenarioFault) → TellsFault made fault → read ≡ Err fault → Fails made read
 tells_fails Toml fault read tells is = cc
 tells_fails (MissingKey path) fault read tells is = cc
 tells_fails (BadValue path) fault read tells is = cc

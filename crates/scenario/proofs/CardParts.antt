@@ -11,7 +11,7 @@ use Rattle.card_files.proofs.OwnNames.{not_taken}
 use Rattle.card_files.proofs.Records.{are_apart-push}
 use Rattle.card_files.specs.AppRules.{has_size, is_printable, is_label, are_apart}
 use Rattle.card_files.specs.Directory.{is_hidden}
-use Rattle.card_files.specs.Kept.{KeepsRules, AreInSight}
+use Rattle.card_files.specs.ImageRules.{KeepsRules, AreInSight}
 use Rattle.card_files.specs.Views.{AppData}
 use Rattle.card_files.specs.Views.{RecordData}
 use Rattle.issuer_host.specs.declared.keys.HostKeys.{HostKeys}
@@ -19,7 +19,7 @@ use Rattle.scenario_fields.proofs.Steps.{none_passes}
 use Rattle.scenario_fields.specs.Value.{is_one_of}
 use Rattle.scenario_fields.specs.declared.spot.Characters.TheVariants.{Printable}
 use Rattle.scenario.specs.CardRules.{KeepsFiles, KeepsHolder, KeepsCounters, KeepsAccess, KeepsExtras, AreAnswers, IsNewRecord, IsNewApp, IsCard, IsNewCard}
-use Rattle.scenario.specs.Cards.{FilesData, HolderData, CountersData, AccessData, app_with, opening_of, has_name, is_named, hides_one, is_directory}
+use Rattle.scenario.specs.Cards.{FilesData, HolderData, CountersData, AccessData, app_with, opening_state, has_app_named, is_name_used, hides_one, is_directory}
 use Rattle.scenario.specs.Seen.{seen_card, seen_cards}
 use Rattle.scenario.specs.declared.extras.Extras.{Extras}
 use Rattle.scenario.specs.declared.plan.NamedCard.{NamedCard}
@@ -38,7 +38,7 @@ label_passes text within all =
 app_keeps : (keys : HostKeys) (files : FilesData) (holder : HolderData) (counters : CountersData) (access : AccessData) (extras : Extras)
     → KeepsFiles files → KeepsHolder holder → KeepsCounters counters → KeepsAccess access → KeepsExtras files.pdol files.records holder.currency extras
     → KeepsRules (app_with keys files holder counters access extras)
-unfolding app_with opening_of
+unfolding app_with opening_state
 app_keeps keys files holder counters access extras f h c a e = record {
   name = f.name;
   label = f.label;
@@ -70,7 +70,7 @@ app_keeps keys files holder counters access extras f h c a e = record {
 pub is_new : (keys : HostKeys) (files : FilesData) (holder : HolderData) (counters : CountersData) (access : AccessData) (extras : Extras)
     (earlier : List AppData) (app : AppData)
     → app ≡ app_with keys files holder counters access extras → KeepsFiles files → KeepsHolder holder → KeepsCounters counters → KeepsAccess access
-    → KeepsExtras files.pdol files.records holder.currency extras → has_name files.name earlier ≡ false → IsNewApp earlier app
+    → KeepsExtras files.pdol files.records holder.currency extras → has_app_named files.name earlier ≡ false → IsNewApp earlier app
 unfolding app_with
 is_new keys files holder counters access extras earlier app same f h c a e first =
     let new : IsNewApp earlier (app_with keys files holder counters access extras) =
@@ -83,7 +83,7 @@ apps_keep old new app pushed keep is = rw pushed (All-push KeepsRules old app ke
 
 pub app_names_differ : (old new : List AppData) (app : AppData) → new ≡ old ++ app ∷ [] → AllPairs (λ a b. a.name ≢ b.name) old
     → IsNewApp old app → AllPairs (λ a b. a.name ≢ b.name) new
-unfolding has_name
+unfolding has_app_named
 app_names_differ old new app pushed differ is =
     rw pushed
     (all_pairs_push (λ a b. a.name ≢ b.name) old app differ (not_taken (λ a. a.name) app.name old is.first))
@@ -111,7 +111,7 @@ cards_keep old new card pushed keep is = rw (pushed, map-append) (All-push IsCar
 
 pub card_names_differ : (old new : List NamedCard) (card : NamedCard) → new ≡ old ++ card ∷ [] → AllPairs (λ a b. a.name ≢ b.name) (seen_cards old)
     → IsNewCard (seen_cards old) (seen_card card) → AllPairs (λ a b. a.name ≢ b.name) (seen_cards new)
-unfolding is_named
+unfolding is_name_used
 card_names_differ old new card pushed differ is =
     rw (pushed, map-append)
     (all_pairs_push (λ a b. a.name ≢ b.name) (seen_cards old) (seen_card card) differ (not_taken (λ c. c.name) (seen_card card).name (seen_cards old) is.first))

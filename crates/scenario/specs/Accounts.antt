@@ -10,18 +10,18 @@ use Rattle.issuer_host.specs.declared.account.Method.{Method}
 use Rattle.issuer_host.specs.declared.account.Method.TheVariants.{One, Two}
 use Rattle.script_words.specs.Script.{ScriptData}
 use Rattle.script_words.specs.declared.script.Ordered.{Ordered}
-use Rattle.script_words.specs.Order.{order_of}
+use Rattle.script_words.specs.OrderWords.{order_of}
 use Rattle.toml.specs.Data.{Data, Items, no_items, item, Members}
 use Rattle.scenario_fields.specs.Fault.{◌>>=◌, or_fault, keep_if}
 use Rattle.scenario_fields.specs.Fields.{number_at, listed_or, flag_or, str_at, digits_at, optional_digits, optional_bytes, code_at, array_at, array_or_none, table_item, each, only}
-use Rattle.scenario_fields.specs.Place.{item_path, in_account, in_scripts}
+use Rattle.scenario_fields.specs.TablePaths.{item_path, in_account, in_scripts}
 use Rattle.scenario_fields.specs.Value.{str_of}
 use Rattle.scenario_fields.specs.declared.fault.ScenarioFault.{ScenarioFault}
 use Rattle.scenario_fields.specs.declared.fault.ScenarioFault.TheVariants.{BadValue, OutOfLimit}
 
 -- whether the script runs before the final GENERATE AC
-unfoldable pub is_before : (List ℕ → List ℕ) → List ℕ → Result Bool ScenarioFault
-is_before path word =
+unfoldable pub runs_before : (List ℕ → List ℕ) → List ℕ → Result Bool ScenarioFault
+runs_before path word =
     if bytes_eq word (codes "before") then Ok true
     else if bytes_eq word (codes "after") then Ok false
     else Err (BadValue (path (codes "when")))
@@ -35,21 +35,21 @@ command_item path k d = do
 unfoldable pub commands_at : (List ℕ → List ℕ) → Members → Result (List Ordered) ScenarioFault
 commands_at path ms = array_at path (codes "commands") 1 16 ms >>= each (command_item path) 0
 
-unfoldable pub script_keys : List (List ℕ)
-script_keys = codes "when" ∷ codes "id" ∷ codes "commands" ∷ []
+unfoldable pub script_table_keys : List (List ℕ)
+script_table_keys = codes "when" ∷ codes "id" ∷ codes "commands" ∷ []
 
-unfoldable pub script_of : (List ℕ → List ℕ) → Members → Result ScriptData ScenarioFault
-script_of path ms = do
+unfoldable pub script_of_members : (List ℕ → List ℕ) → Members → Result ScriptData ScenarioFault
+script_of_members path ms = do
   word ← str_at path (codes "when") ms
-  before ← is_before path word
+  before ← runs_before path word
   id ← optional_bytes path (codes "id") 4 4 ms
   commands ← commands_at path ms
-  _ ← only path script_keys ms
+  _ ← only path script_table_keys ms
   Ok (record { before = before; id = id; commands = commands })
 
 -- script `j` of account `i`, whose keys have these paths
 unfoldable pub script_item : (List ℕ → List ℕ) → ℕ → ℕ → Data → Result ScriptData ScenarioFault
-script_item path i j d = table_item path (codes "scripts") j d >>= script_of (in_scripts i j)
+script_item path i j d = table_item path (codes "scripts") j d >>= script_of_members (in_scripts i j)
 
 -- at most 8 scripts, which get at most 1,024 bytes
 unfoldable pub scripts_at : (List ℕ → List ℕ) → ℕ → Members → Result (List ScriptData) ScenarioFault
@@ -68,14 +68,14 @@ new_pan path earlier ms = do
   pan ← digits_at path (codes "pan") least_pan most_pan ms
   keep_if (not (has_pan pan earlier)) (BadValue (path (codes "pan"))) pan
 
-abbrev pub method_of : ℕ → Method
-method_of number = (if number == 2 then Two else One)
+abbrev pub arpc_method_of : ℕ → Method
+arpc_method_of number = (if number == 2 then Two else One)
 
 -- the method of the response cryptogram
 unfoldable pub method_at : (List ℕ → List ℕ) → Members → Result Method ScenarioFault
 method_at path ms = do
   number ← listed_or 1 path (codes "arpc") (1 ∷ 2 ∷ []) ms
-  Ok (method_of number)
+  Ok (arpc_method_of number)
 
 -- the sums of none or some of 64, 32 and 16
 abbrev pub status_sums : List ℕ

@@ -2,13 +2,13 @@
 use Rattle.std.specs.Prelude.{◌≡◌, ◌≢◌, ℕ, ◌≤◌, false, List, length, Option, Some, None, IsTrue}
 use Rattle.std.specs.List.{All, AllPairs, list_any}
 use Rattle.card_files.specs.AppRules.{is_name, is_label, is_afl, is_format, is_record, is_pair, are_records, is_reference_pin, is_sum_limit, is_tries, is_second_code, is_log_size, is_log_file}
-use Rattle.card_files.specs.Kept.{KeepsRules, IsImage}
+use Rattle.card_files.specs.ImageRules.{KeepsRules, IsImage}
 use Rattle.card_files.specs.Lists.{is_optional_pdol, is_cdol1, is_cdol2, leaves_room}
 use Rattle.card_files.specs.Views.{RecordData, AppData, ImageData}
 use Rattle.emv_dict.specs.Bcd.{has_digits}
 use Rattle.emv_dict.specs.Pan.{is_pan_length}
 use Rattle.emv_dict.specs.Settings.{is_code}
-use Rattle.scenario.specs.Cards.{FilesData, HolderData, CountersData, AccessData, CardData, no_image, has_name, is_named}
+use Rattle.scenario.specs.Cards.{FilesData, HolderData, CountersData, AccessData, CardData, no_image, has_app_named, is_name_used}
 use Rattle.scenario.specs.declared.extras.Extras.{Extras}
 
 -- a record in its limits, of a number that no earlier one of its file has
@@ -51,7 +51,7 @@ pub record KeepsExtras (pdol : Option (List ℕ)) (records : List RecordData) (c
 -- an application in its rules, of a name that no earlier one has
 pub record IsNewApp (earlier : List AppData) (app : AppData) : Type 0 where
   pub rules : KeepsRules app
-  pub first : has_name app.name earlier ≡ false
+  pub first : has_app_named app.name earlier ≡ false
 
 -- at most 300 answers, each of at most 258 bytes
 pub record AreAnswers (answers : List (List ℕ)) : Type 0 where
@@ -72,7 +72,7 @@ pub record IsCard (card : CardData) : Type 0 where
 -- such a card, of a name that no earlier one has
 pub record IsNewCard (earlier : List CardData) (card : CardData) : Type 0 where
   pub rules : IsCard card
-  pub first : is_named card.name earlier ≡ false
+  pub first : is_name_used card.name earlier ≡ false
 
 -- the cards of a scenario: 1 to 64, each in its rules and with a name of its own
 pub record AreCards (cards : List CardData) : Type 0 where

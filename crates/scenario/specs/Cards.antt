@@ -2,7 +2,7 @@
 use Rattle.std.specs.Prelude.{ℕ, ◌+◌, List, [], ◌∷◌, ◌++◌, map, codes, Bool, true, false, ◌&&◌, not, nat_le, Option, Some, None, is_some, Result, Ok, Err, if◌then◌else◌}
 use Rattle.std.specs.List.{list_any}
 use Rattle.std.specs.Str.{bytes_eq}
-use Rattle.card_files.specs.AppRules.{is_pair, most_afl, most_records, reference_pin}
+use Rattle.card_files.specs.AppRules.{is_pair, most_afl, most_image_records, reference_pin}
 use Rattle.card_files.specs.Directory.{is_hidden}
 use Rattle.card_files.specs.Lists.{has_all, cdol1_entries, cdol2_entries, most_data, most_pdol, most_cdol}
 use Rattle.card_files.specs.Views.{RecordData, AppData, ImageData}
@@ -19,7 +19,7 @@ use Rattle.scenario.specs.declared.extras.Extras.{Extras}
 use Rattle.toml.specs.Data.{Data, Items, no_items, item, Members, get_member}
 use Rattle.scenario_fields.specs.Fault.{◌>>=◌, keep_if}
 use Rattle.scenario_fields.specs.Fields.{absent, number_at, number_or, optional_number, listed_or, flag_or, text_at, digits_at, optional_digits, code_at, bytes_at, optional_bytes, array_at, each, only}
-use Rattle.scenario_fields.specs.Place.{item_path, at_top, in_card, in_app, in_record}
+use Rattle.scenario_fields.specs.TablePaths.{item_path, at_top, in_card, in_app, in_record}
 use Rattle.scenario_fields.specs.Value.{bytes_of, table_of}
 use Rattle.scenario_fields.specs.declared.fault.ScenarioFault.{ScenarioFault}
 use Rattle.scenario_fields.specs.declared.fault.ScenarioFault.TheVariants.{BadValue, OutOfLimit}
@@ -51,8 +51,8 @@ unfoldable pub record_keys : List (List ℕ)
 record_keys = codes "sfi" ∷ codes "number" ∷ codes "bytes" ∷ []
 
 -- a record behind these: no two of one number in one file
-unfoldable pub record_of : ℕ → ℕ → ℕ → List RecordData → Members → Result RecordData ScenarioFault
-record_of i j k earlier ms = do
+unfoldable pub record_of_members : ℕ → ℕ → ℕ → List RecordData → Members → Result RecordData ScenarioFault
+record_of_members i j k earlier ms = do
   sfi ← number_at (in_record i j k) (codes "sfi") 1 30 ms
   number ← number_at (in_record i j k) (codes "number") 1 255 ms
   bytes ← bytes_at (in_record i j k) (codes "bytes") 1 256 ms
@@ -62,7 +62,7 @@ record_of i j k earlier ms = do
   Ok r
 
 unfoldable pub record_item : ℕ → ℕ → ℕ → List RecordData → Data → Result RecordData ScenarioFault
-record_item i j k earlier d = table_of (in_app i j (item_path (codes "record") k [])) d >>= record_of i j k earlier
+record_item i j k earlier d = table_of (in_app i j (item_path (codes "record") k [])) d >>= record_of_members i j k earlier
 
 abbrev pub records_from : ℕ → ℕ → ℕ → List RecordData → Items → Result (List RecordData) ScenarioFault
 records_from i j k earlier no_items = Ok []
@@ -73,7 +73,7 @@ records_from i j k earlier (item d ds) = do
 
 unfoldable pub records_at : ℕ → ℕ → Members → Result (List RecordData) ScenarioFault
 records_at i j ms = do
-  items ← array_at (in_app i j) (codes "record") 0 most_records ms
+  items ← array_at (in_app i j) (codes "record") 0 most_image_records ms
   records_from i j 0 [] items
 
 -- what stands in an application's files
@@ -110,14 +110,14 @@ pub record AccessData : Type 0 where
   pub blocked : Bool
   pub ac_key : Option (List ℕ)
 
-unfoldable pub has_name : List ℕ → List AppData → Bool
-has_name name apps = list_any (λ a. bytes_eq a.name name) apps
+unfoldable pub has_app_named : List ℕ → List AppData → Bool
+has_app_named name apps = list_any (λ a. bytes_eq a.name name) apps
 
 -- a name that no earlier application has
 unfoldable pub new_name : ℕ → ℕ → List AppData → Members → Result (List ℕ) ScenarioFault
 new_name i j earlier ms = do
   name ← bytes_at (in_app i j) (codes "name") 5 16 ms
-  keep_if (not (has_name name earlier)) (BadValue (in_app i j (codes "name"))) name
+  keep_if (not (has_app_named name earlier)) (BadValue (in_app i j (codes "name"))) name
 
 unfoldable pub files_of : ℕ → ℕ → List AppData → Members → Result FilesData ScenarioFault
 files_of i j earlier ms = do
@@ -188,8 +188,8 @@ own_or derived None = derived
 own_or derived (Some key) = key
 
 -- nothing is counted yet, and the log is empty
-unfoldable pub opening_of : CountersData → AccessData → Extras → AppState
-opening_of counters access extras = record {
+unfoldable pub opening_state : CountersData → AccessData → Extras → AppState
+opening_state counters access extras = record {
   counter = counters.counter;
   last_online = counters.last_online;
   count = 0;
@@ -223,7 +223,7 @@ app_with keys files holder counters access extras = record {
   pan = holder.pan;
   sequence = holder.sequence;
   currency = holder.currency;
-  opening = opening_of counters access extras;
+  opening = opening_state counters access extras;
   tries = access.tries;
   ac_key = own_or (master_key_of keys.ac holder.pan holder.sequence) access.ac_key;
   currency_two = extras.currency_two;
@@ -318,8 +318,8 @@ abbrev pub has_key : List ℕ → Members → Bool
 has_key key ms = is_some (get_member key ms)
 
 -- canned answers stand in place of applications, never beside them
-unfoldable pub kind_at : ℕ → HostKeys → Members → Result KindData ScenarioFault
-kind_at i keys ms =
+unfoldable pub card_kind_at : ℕ → HostKeys → Members → Result KindData ScenarioFault
+card_kind_at i keys ms =
     if has_key (codes "canned") ms && not (has_key (codes "app") ms) then canned_kind (in_card i) ms else image_kind i keys ms
 
 -- a card by its name: its image; or none, and the answers that it gives to its commands, whatever they are
@@ -328,14 +328,14 @@ pub record CardData : Type 0 where
   pub image : ImageData
   pub canned : Option (List (List ℕ))
 
-unfoldable pub is_named : List ℕ → List CardData → Bool
-is_named name cards = list_any (λ c. bytes_eq c.name name) cards
+unfoldable pub is_name_used : List ℕ → List CardData → Bool
+is_name_used name cards = list_any (λ c. bytes_eq c.name name) cards
 
 -- a name that no earlier card has
 unfoldable pub new_card_name : ℕ → List CardData → Members → Result (List ℕ) ScenarioFault
 new_card_name i earlier ms = do
   name ← text_at (in_card i) (codes "name") LowercaseOrDigit 1 16 ms
-  keep_if (not (is_named name earlier)) (BadValue (in_card i (codes "name"))) name
+  keep_if (not (is_name_used name earlier)) (BadValue (in_card i (codes "name"))) name
 
 unfoldable pub card_keys : List (List ℕ)
 card_keys = codes "name" ∷ codes "app" ∷ codes "canned" ∷ codes "version" ∷ codes "pse" ∷ []
@@ -344,7 +344,7 @@ card_keys = codes "name" ∷ codes "app" ∷ codes "canned" ∷ codes "version" 
 unfoldable pub card_of : ℕ → HostKeys → List CardData → Members → Result CardData ScenarioFault
 card_of i keys earlier ms = do
   name ← new_card_name i earlier ms
-  kind ← kind_at i keys ms
+  kind ← card_kind_at i keys ms
   _ ← only (in_card i) card_keys ms
   Ok (record { name = name; image = kind.image; canned = kind.canned })
 

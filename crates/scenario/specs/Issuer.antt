@@ -4,7 +4,7 @@ use Rattle.toml.specs.Data.{Members}
 use Rattle.issuer_host.specs.declared.keys.HostKeys.{HostKeys}
 use Rattle.scenario_fields.specs.Fault.{◌>>=◌}
 use Rattle.scenario_fields.specs.Fields.{bytes_at, table_at, only}
-use Rattle.scenario_fields.specs.Place.{in_issuer}
+use Rattle.scenario_fields.specs.TablePaths.{in_issuer}
 use Rattle.scenario_fields.specs.declared.fault.ScenarioFault.{ScenarioFault}
 
 unfoldable pub issuer_keys : List (List ℕ)

@@ -26,7 +26,7 @@ abbrev pub HaveOwnPans : List AccountData → Type 0
 HaveOwnPans accounts = AllPairs (λ account other. account.pan ≢ other.pan) accounts
 
 -- the tables of a scenario, whatever cards and lanes they name
-pub record AreTables (scenario : ScenarioData) : Type 0 where
+pub record AreScenarioTables (scenario : ScenarioData) : Type 0 where
   pub few_accounts : length scenario.accounts ≤ 1000
   pub accounts : All IsAccount scenario.accounts
   pub own_pans : HaveOwnPans scenario.accounts
@@ -44,6 +44,6 @@ pub record AreTables (scenario : ScenarioData) : Type 0 where
 
 -- a scenario: each card and each lane that is named is there
 pub record IsScenario (scenario : ScenarioData) : Type 0 where
-  pub tables : AreTables scenario
+  pub tables : AreScenarioTables scenario
   pub known_cards : All (HasCards (length scenario.cards)) scenario.lanes
   pub known_lanes : All (λ lane. lane < length scenario.lanes) scenario.schedule

@@ -5,7 +5,7 @@ use Rattle.toml.specs.Data.{Members}
 use Rattle.toml.specs.Parse.{parse_document}
 use Rattle.scenario_fields.specs.Fault.{◌>>=◌, Gives}
 use Rattle.scenario_fields.specs.Fields.{number_or, only}
-use Rattle.scenario_fields.specs.Place.{at_top}
+use Rattle.scenario_fields.specs.TablePaths.{at_top}
 use Rattle.scenario_fields.specs.declared.fault.ScenarioFault.{ScenarioFault}
 use Rattle.scenario_fields.specs.declared.fault.ScenarioFault.TheVariants.{Toml, OutOfLimit}
 use Rattle.scenario.specs.Accounts.{accounts_at}
@@ -46,12 +46,12 @@ scenario_of ms = do
   Ok scenario
 
 -- a text that is no TOML document has the one fault
-abbrev pub of_document : Option Members → Result ScenarioData ScenarioFault
-of_document None = Err Toml
-of_document (Some ms) = scenario_of ms
+abbrev pub scenario_of_document : Option Members → Result ScenarioData ScenarioFault
+scenario_of_document None = Err Toml
+scenario_of_document (Some ms) = scenario_of ms
 
 -- what the bytes give: too many of them are refused unread
-pub record IsReading (bytes : List ℕ) (result : Result ScenarioData ScenarioFault) : Type 0 where
+pub record ReadsScenario (bytes : List ℕ) (result : Result ScenarioData ScenarioFault) : Type 0 where
   pub long : MOST_BYTES < length bytes → Gives (λ s. s) result (Err (OutOfLimit (codes "file")))
-  pub text : length bytes ≤ MOST_BYTES → IsUtf8 bytes → Gives (λ s. s) result (of_document (parse_document bytes))
+  pub text : length bytes ≤ MOST_BYTES → IsUtf8 bytes → Gives (λ s. s) result (scenario_of_document (parse_document bytes))
   pub other : length bytes ≤ MOST_BYTES → (IsUtf8 bytes → ⊥) → Gives (λ s. s) result (Err Toml)

@@ -3,7 +3,7 @@ use Rattle.std.specs.Prelude.{ℕ, ◌+◌, ℤ, pos, negsuc, List, [], ◌∷�
 use Rattle.toml.specs.Data.{Data, Members, as_integer}
 use Rattle.scenario_fields.specs.Fault.{◌>>=◌, or_fault}
 use Rattle.scenario_fields.specs.Fields.{array_or_none, each}
-use Rattle.scenario_fields.specs.Place.{item_path, at_top}
+use Rattle.scenario_fields.specs.TablePaths.{item_path, at_top}
 use Rattle.scenario_fields.specs.declared.fault.ScenarioFault.{ScenarioFault}
 use Rattle.scenario_fields.specs.declared.fault.ScenarioFault.TheVariants.{BadValue, UnknownName}
 

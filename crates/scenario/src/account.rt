@@ -6,14 +6,14 @@ ghost use Rattle.issuer_host.specs.Account.{IsAccount, is_status};
 ghost use Rattle.toml.specs.View.{view, table_view, items_view};
 ghost use Rattle.scenario_fields.specs.Fault.{Gives};
 ghost use Rattle.scenario_fields.specs.Fields.{only};
-ghost use Rattle.scenario_fields.specs.Place.{path};
+ghost use Rattle.scenario_fields.specs.TablePaths.{path};
 ghost use Rattle.scenario.specs.Accounts.{has_pan, new_pan, method_at, status_at, account_keys, account_of, account_item, accounts_from, accounts_at};
 ghost use Rattle.scenario.specs.Plan.{HaveOwnPans};
 
 use crate::script::scripts_at;
 use emv_dict::{Digits, LEAST_PAN, MOST_AMOUNT, MOST_PAN};
 use issuer_host::{Account, Method};
-use scenario_fields::{Fields, Place, ScenarioFault};
+use scenario_fields::{Fields, ScenarioFault, TablePlace};
 use toml::Value;
 
 /// Whether an account has this PAN.
@@ -112,7 +112,7 @@ fn account_item(
     ensures exact { Gives (λ account. account) result (account_item (path document.now.place) index earlier.now (view value.now)) }
     ensures rules { IfOk result IsAccount }
 {
-    let fields = document.element("account", index, Place::Account(index), value)?;
+    let fields = document.element("account", index, TablePlace::Account(index), value)?;
     read_account(&fields, index, earlier)
 }
 

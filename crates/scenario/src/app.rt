@@ -7,9 +7,9 @@ ghost use Rattle.card_files.specs.AppRules.{is_name, is_label, is_format};
 ghost use Rattle.toml.specs.View.{view, table_view};
 ghost use Rattle.scenario_fields.specs.Fault.{Gives};
 ghost use Rattle.scenario_fields.specs.Fields.{only, text_at, listed_or, number_or, optional_number};
-ghost use Rattle.scenario_fields.specs.Place.{path};
+ghost use Rattle.scenario_fields.specs.TablePaths.{path};
 ghost use Rattle.scenario.specs.Cards as spec;
-ghost use Rattle.scenario.specs.Cards.{app_keys, app_of, app_item as item_of, files_of, sequence_at as sequence_found, holder_of, counters_of, access_of, app_with, opening_of, own_or};
+ghost use Rattle.scenario.specs.Cards.{app_keys, app_of, app_item as item_of, files_of, sequence_at as sequence_found, holder_of, counters_of, access_of, app_with, opening_state, own_or};
 ghost use Rattle.scenario.specs.CardRules.{KeepsFiles, KeepsHolder, KeepsCounters, KeepsAccess, KeepsExtras, IsNewApp};
 ghost use Rattle.scenario_fields.specs.declared.spot.Characters.TheVariants.{Printable};
 ghost use Rattle.scenario.specs.Extras.{extras_of};
@@ -23,16 +23,16 @@ use card_keys::master_key;
 use card_state::AppState;
 use emv_dict::{Digits, LEAST_PAN, MOST_AMOUNT, MOST_PAN, Name, two_digits};
 use issuer_host::HostKeys;
-use scenario_fields::{Characters, Fields, Place, ScenarioFault, Spot};
+use scenario_fields::{Characters, Fields, ScenarioFault, Spot, TablePlace};
 use std::alloc::Global;
 use std::marker::Model;
 use toml::{Table, Value};
 use triple_des::Key16;
 
 /// Whether an application has this name.
-#[tactic(auto, unfolding(crate::specs::Cards::has_name))]
+#[tactic(auto, unfolding(crate::specs::Cards::has_app_named))]
 fn has_name(name: &[u8], apps: &[AppImage]) -> bool
-    ensures { result ≡ spec.has_name name.now apps.now }
+    ensures { result ≡ spec.has_app_named name.now apps.now }
 {
     apps.iter().any(|app| app.name.as_slice() == name)
 }
@@ -48,11 +48,11 @@ fn new_name(
 ) -> Result<Name, ScenarioFault>
     ensures exact { Gives (λ name. name) result (spec.new_name card index earlier.now (table_view table.now)) }
     ensures rule { IfOk result (λ name. IsTrue (is_name name)) }
-    ensures first { IfOk result (λ name. spec.has_name name earlier.now ≡ false) }
+    ensures first { IfOk result (λ name. spec.has_app_named name earlier.now ≡ false) }
 {
     let fields = Fields {
         alloc,
-        place: Place::App(card, index),
+        place: TablePlace::App(card, index),
         table,
     };
     let name = Name(fields.few_bytes("name", 5)?);
@@ -138,11 +138,11 @@ fn read_files(
 ) -> Result<Files, ScenarioFault>
     ensures exact { Gives (λ x. x) result (files_of card index earlier.now (table_view table.now)) }
     ensures rules { IfOk result (λ files. KeepsFiles files) }
-    ensures first { IfOk result (λ files. spec.has_name files.name earlier.now ≡ false) }
+    ensures first { IfOk result (λ files. spec.has_app_named files.name earlier.now ≡ false) }
 {
     let fields = Fields {
         alloc,
-        place: Place::App(card, index),
+        place: TablePlace::App(card, index),
         table,
     };
     let name = new_name(alloc, card, index, earlier, table)?;
@@ -258,7 +258,7 @@ fn read_holder(
 {
     let fields = Fields {
         alloc,
-        place: Place::App(card, index),
+        place: TablePlace::App(card, index),
         table,
     };
     let pan = fields.digits("pan", LEAST_PAN, MOST_PAN)?;
@@ -291,7 +291,7 @@ fn read_counters(
 {
     let fields = Fields {
         alloc,
-        place: Place::App(card, index),
+        place: TablePlace::App(card, index),
         table,
     };
     let counter = counter_at(&fields, "counter")?;
@@ -319,7 +319,7 @@ fn read_access(
 {
     let fields = Fields {
         alloc,
-        place: Place::App(card, index),
+        place: TablePlace::App(card, index),
         table,
     };
     let pin = fields.optional_digits("pin", 4, 12)?;
@@ -423,9 +423,9 @@ fn app_with(
 }
 
 /// The state in which an application opens: nothing is counted yet.
-#[tactic(auto, unfolding(crate::specs::Cards::opening_of))]
+#[tactic(auto, unfolding(crate::specs::Cards::opening_state))]
 fn opening_of(counters: &Counters, access: &Access, extras: &Extras) -> AppState
-    ensures { result ≡ opening_of counters.now access.now extras.now }
+    ensures { result ≡ opening_state counters.now access.now extras.now }
 {
     let pin = access.pin;
     AppState {
@@ -474,7 +474,7 @@ fn read_app(
 {
     let fields = Fields {
         alloc,
-        place: Place::App(card, index),
+        place: TablePlace::App(card, index),
         table,
     };
     let files = read_files(alloc, card, index, earlier, table)?;
@@ -501,7 +501,7 @@ pub fn app_item(
 {
     let spot = Spot {
         alloc,
-        place: Place::Card(card),
+        place: TablePlace::Card(card),
         key: "app",
         index: Some(index),
     };

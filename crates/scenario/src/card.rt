@@ -3,14 +3,14 @@ ghost use Rattle.std.specs.Prelude.{◌≡◌, ◌≢◌, ◌≤◌, [], length,
 ghost use Rattle.std.specs.List.{All, AllPairs, list_any};
 ghost use Rattle.std.specs.Str.{bytes_eq};
 ghost use Rattle.card_files.specs.Directory.{is_hidden as is_hidden_name};
-ghost use Rattle.card_files.specs.Kept.{KeepsRules, AreApps, IsDirectoryFile, AreInSight};
+ghost use Rattle.card_files.specs.ImageRules.{KeepsRules, AreApps, IsDirectoryFile, AreInSight};
 ghost use Rattle.toml.specs.View.{view, table_view, items_view};
 ghost use Rattle.scenario_fields.specs.Fault.{Gives};
 ghost use Rattle.scenario_fields.specs.Fields.{only, optional_number};
-ghost use Rattle.scenario_fields.specs.Place.{path};
+ghost use Rattle.scenario_fields.specs.TablePaths.{path};
 ghost use Rattle.scenario.specs.CardRules.{IsKind, IsCard, IsNewCard, AreCards};
 ghost use Rattle.scenario.specs.Cards as spec;
-ghost use Rattle.scenario.specs.Cards.{card_keys, card_of, card_item as item_of, cards_from, apps_from, apps_at as apps_found, version_at as version_found, directory_at as directory_found, canned_kind as canned_found, image_kind as image_found, kind_at as kind_found, cards_at as cards_found};
+ghost use Rattle.scenario.specs.Cards.{card_keys, card_of, card_item as item_of, cards_from, apps_from, apps_at as apps_found, version_at as version_found, directory_at as directory_found, canned_kind as canned_found, image_kind as image_found, card_kind_at as kind_found, cards_at as cards_found};
 ghost use Rattle.scenario.specs.Seen.{image_of, canned_of, seen_kind, seen_card, seen_cards};
 
 use crate::app::app_item;
@@ -18,7 +18,7 @@ use crate::canned::canned_at;
 use crate::plan::{CardKind, NamedCard};
 use card_files::{AppImage, DIRECTORY_NAME, Image};
 use issuer_host::HostKeys;
-use scenario_fields::{Characters, Fields, Place, ScenarioFault, Spot};
+use scenario_fields::{Characters, Fields, ScenarioFault, Spot, TablePlace};
 use std::alloc::Global;
 use toml::{Table, Value};
 
@@ -30,7 +30,7 @@ fn any_named(name: &[u8], cards: &[NamedCard]) -> bool
 
 /// Whether a card has this name.
 fn is_named(name: &[u8], cards: &[NamedCard]) -> bool
-    ensures { result ≡ spec.is_named name.now (seen_cards cards.now) }
+    ensures { result ≡ spec.is_name_used name.now (seen_cards cards.now) }
 {
     any_named(name, cards)
 }
@@ -46,11 +46,11 @@ fn new_card_name(
     ensures exact { Gives (λ name. name.items) result (spec.new_card_name index (seen_cards earlier.now) (table_view table.now)) }
     ensures some { IfOk result (λ name. 1 ≤ length name.items) }
     ensures short { IfOk result (λ name. length name.items ≤ 16) }
-    ensures first { IfOk result (λ name. spec.is_named name.items (seen_cards earlier.now) ≡ false) }
+    ensures first { IfOk result (λ name. spec.is_name_used name.items (seen_cards earlier.now) ≡ false) }
 {
     let fields = Fields {
         alloc,
-        place: Place::Card(index),
+        place: TablePlace::Card(index),
         table,
     };
     let name = fields.owned_text("name", Characters::LowercaseOrDigit, 1, 16)?;
@@ -93,7 +93,7 @@ fn apps_at(
 {
     let fields = Fields {
         alloc,
-        place: Place::Card(card),
+        place: TablePlace::Card(card),
         table,
     };
     read_apps(alloc, card, keys, fields.array("app", 1, 4)?)
@@ -193,7 +193,7 @@ fn image_kind(
 {
     let fields = Fields {
         alloc,
-        place: Place::Card(index),
+        place: TablePlace::Card(index),
         table,
     };
     let apps = apps_at(alloc, index, keys, table)?;
@@ -207,7 +207,7 @@ fn image_kind(
 }
 
 /// What a card answers by: its applications, or in place of them its canned answers.
-#[tactic(auto, unfolding(crate::specs::Cards::kind_at))]
+#[tactic(auto, unfolding(crate::specs::Cards::card_kind_at))]
 fn kind_at(
     alloc: Global,
     index: usize,
@@ -219,7 +219,7 @@ fn kind_at(
 {
     let fields = Fields {
         alloc,
-        place: Place::Card(index),
+        place: TablePlace::Card(index),
         table,
     };
     if fields.optional("canned").is_some() && fields.optional("app").is_none() {
@@ -242,7 +242,7 @@ fn read_card(
 {
     let fields = Fields {
         alloc,
-        place: Place::Card(index),
+        place: TablePlace::Card(index),
         table,
     };
     let name = new_card_name(alloc, index, earlier, table)?;
@@ -265,7 +265,7 @@ fn card_item(
 {
     let spot = Spot {
         alloc,
-        place: Place::Top,
+        place: TablePlace::Top,
         key: "card",
         index: Some(index),
     };
@@ -307,7 +307,7 @@ pub fn cards_at(
 {
     let fields = Fields {
         alloc,
-        place: Place::Top,
+        place: TablePlace::Top,
         table: document,
     };
     read_cards(alloc, keys, fields.array("card", 1, 64)?)

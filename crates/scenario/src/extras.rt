@@ -4,7 +4,7 @@ ghost use Rattle.card_files.specs.AppRules.{is_second_code, is_log_size, is_log_
 ghost use Rattle.card_files.specs.Lists.{leaves_room};
 ghost use Rattle.toml.specs.View.{table_view};
 ghost use Rattle.scenario_fields.specs.Fault.{Gives};
-ghost use Rattle.scenario_fields.specs.Place.{path};
+ghost use Rattle.scenario_fields.specs.TablePaths.{path};
 ghost use Rattle.scenario.specs.CardRules.{KeepsExtras};
 ghost use Rattle.scenario.specs.Extras.{second_currency_at as second_found, log_at as log_found, log_file_at as log_file_found, extras_of};
 

@@ -3,11 +3,11 @@ ghost use Rattle.std.specs.Prelude.{◌≡◌};
 ghost use Rattle.toml.specs.View.{table_view};
 ghost use Rattle.scenario_fields.specs.Fault.{Gives};
 ghost use Rattle.scenario_fields.specs.Fields.{only};
-ghost use Rattle.scenario_fields.specs.Place.{path};
+ghost use Rattle.scenario_fields.specs.TablePaths.{path};
 ghost use Rattle.scenario.specs.Issuer.{issuer_keys, issuer_of, issuer_at};
 
 use issuer_host::HostKeys;
-use scenario_fields::{Fields, Place, ScenarioFault};
+use scenario_fields::{Fields, ScenarioFault, TablePlace};
 use triple_des::Key16;
 
 #[tactic(auto, unfolding(crate::specs::Issuer::issuer_keys))]
@@ -40,5 +40,5 @@ fn read_issuer(fields: &Fields) -> Result<HostKeys, ScenarioFault>
 pub fn issuer_at(document: &Fields) -> Result<HostKeys, ScenarioFault>
     ensures { Gives (λ keys. keys) result (issuer_at (path document.now.place) (table_view document.now.table.now)) }
 {
-    read_issuer(&document.inner("issuer", Place::Issuer)?)
+    read_issuer(&document.inner("issuer", TablePlace::Issuer)?)
 }

@@ -3,13 +3,13 @@ ghost use Rattle.std.specs.Prelude.{◌≡◌, ◌≤◌, ℕ, length, option_ma
 ghost use Rattle.card_files.specs.Lists.{has_all, holds_all, entries_within, is_optional_pdol, most_cdol};
 ghost use Rattle.toml.specs.View.{table_view};
 ghost use Rattle.scenario_fields.specs.Fault.{Gives};
-ghost use Rattle.scenario_fields.specs.Place.{spot_path};
+ghost use Rattle.scenario_fields.specs.TablePaths.{spot_path};
 ghost use Rattle.scenario.specs.Cards.{list_of, pdol_at as pdol_found, cdol_at as cdol_found};
 ghost use Rattle.scenario.specs.SeenCards.{wanted_by};
 
 use card_files::lists::{MOST_CDOL, MOST_DATA, MOST_PDOL, has_cdol1_entries, has_cdol2_entries};
 use object_lists::{Dol, read_dol, total};
-use scenario_fields::{Fields, Place, ScenarioFault, Spot};
+use scenario_fields::{Fields, ScenarioFault, Spot, TablePlace};
 use std::alloc::Global;
 use toml::Table;
 
@@ -68,7 +68,7 @@ pub fn pdol_at(
 {
     let fields = Fields {
         alloc,
-        place: Place::App(card, index),
+        place: TablePlace::App(card, index),
         table,
     };
     match fields.optional_bytes("pdol", 0, MOST_PDOL)? {
@@ -95,7 +95,7 @@ pub fn cdol_at(
 {
     let fields = Fields {
         alloc,
-        place: Place::App(card, index),
+        place: TablePlace::App(card, index),
         table,
     };
     let bytes = fields.bytes(key, 0, MOST_CDOL)?;

@@ -2,15 +2,15 @@
 ghost use Rattle.std.specs.Prelude.{◌≡◌, ◌<◌, ◌≤◌, length, map, codes, IfOk, vec_len};
 ghost use Rattle.std.specs.List.{All};
 ghost use Rattle.toml.specs.View.{table_view};
-ghost use Rattle.scenario_fields.specs.Fault.{Gives, Tells};
+ghost use Rattle.scenario_fields.specs.Fault.{Gives, TellsFault};
 ghost use Rattle.scenario_fields.specs.Fields.{only};
-ghost use Rattle.scenario_fields.specs.Place.{path};
+ghost use Rattle.scenario_fields.specs.TablePaths.{path};
 ghost use Rattle.scenario_fields.specs.declared.fault.ScenarioFault.TheVariants.{OutOfLimit};
 ghost use Rattle.scenario_lanes.specs.Lanes.{lanes_at as lanes_found};
 ghost use Rattle.scenario_lanes.specs.Plan.{IsLane, HasCards, HaveRoom, purchase_count};
 ghost use Rattle.scenario.specs.Cards.{card_names as names_of};
-ghost use Rattle.scenario.specs.Plan.{AreTables, IsScenario};
-ghost use Rattle.scenario.specs.Scenario.{top_keys, tables_of, names_known as names_tried, scenario_of, IsReading};
+ghost use Rattle.scenario.specs.Plan.{AreScenarioTables, IsScenario};
+ghost use Rattle.scenario.specs.Scenario.{top_keys, tables_of, names_known as names_tried, scenario_of, ReadsScenario};
 ghost use Rattle.scenario.specs.Seen.{seen_cards};
 
 use crate::account::accounts_at;
@@ -18,7 +18,7 @@ use crate::card::cards_at;
 use crate::issuer::issuer_at;
 use crate::plan::{NamedCard, Scenario};
 use crate::schedule::{known_lanes, schedule_at};
-use scenario_fields::{Fields, Place, ScenarioFault, Spot};
+use scenario_fields::{Fields, ScenarioFault, Spot, TablePlace};
 use scenario_lanes::{Lane, known_cards, lanes_at};
 use std::alloc::{AllocError, Global};
 use toml::Table;
@@ -68,11 +68,11 @@ fn lanes_with(
 #[tactic(auto, unfolding(crate::specs::Scenario::tables_of))]
 fn read_tables(alloc: Global, document: &Table) -> Result<Scenario, ScenarioFault>
     ensures exact { Gives (λ scenario. scenario) result (tables_of (table_view document.now)) }
-    ensures rules { IfOk result AreTables }
+    ensures rules { IfOk result AreScenarioTables }
 {
     let fields = Fields {
         alloc,
-        place: Place::Top,
+        place: TablePlace::Top,
         table: document,
     };
     let issuer = issuer_at(&fields)?;
@@ -116,11 +116,11 @@ fn read_document(alloc: Global, document: &Table) -> Result<Scenario, ScenarioFa
 
 /// The fault of a document that is too long.
 fn too_long(alloc: Global) -> ScenarioFault
-    ensures { Tells result (OutOfLimit (codes "file")) }
+    ensures { TellsFault result (OutOfLimit (codes "file")) }
 {
     let file = Spot {
         alloc,
-        place: Place::Top,
+        place: TablePlace::Top,
         key: "file",
         index: None,
     };
@@ -131,7 +131,7 @@ fn too_long(alloc: Global) -> ScenarioFault
 /// bytes, bytes that are no TOML document, then the document's tables in their order, key by key, and
 /// behind all the names that it uses. Want of memory is an error of its own.
 pub fn read_scenario(alloc: Global, bytes: &[u8]) -> Result<Scenario, ScenarioFault>
-    ensures exact { IsReading bytes.now result }
+    ensures exact { ReadsScenario bytes.now result }
     ensures rules { IfOk result IsScenario }
 {
     if bytes.len() > MOST_BYTES {

@@ -2,16 +2,16 @@
 ghost use Rattle.std.specs.Prelude.{◌≡◌, [], length, codes, vec_len, IsTrue, IfOk};
 ghost use Rattle.card_files.specs.AppRules.{are_apart, are_records};
 ghost use Rattle.toml.specs.View.{view, table_view, items_view};
-ghost use Rattle.scenario_fields.specs.Fault.{Gives, Tells};
+ghost use Rattle.scenario_fields.specs.Fault.{Gives, TellsFault};
 ghost use Rattle.scenario_fields.specs.Fields.{only};
-ghost use Rattle.scenario_fields.specs.Place.{path, in_app, item_path};
+ghost use Rattle.scenario_fields.specs.TablePaths.{path, in_app, item_path};
 ghost use Rattle.scenario_fields.specs.declared.fault.ScenarioFault.TheVariants.{BadValue};
 ghost use Rattle.scenario.specs.CardRules.{IsNewRecord};
-ghost use Rattle.scenario.specs.Cards.{record_keys, record_of, record_item, records_from, records_at};
+ghost use Rattle.scenario.specs.Cards.{record_keys, record_of_members, record_item, records_from, records_at};
 
 use card_files::RecordImage;
 use card_files::rules::{MOST_RECORDS, is_among};
-use scenario_fields::{Fields, Place, ScenarioFault, Spot};
+use scenario_fields::{Fields, ScenarioFault, Spot, TablePlace};
 use std::alloc::Global;
 use toml::{Table, Value};
 
@@ -32,11 +32,11 @@ struct RecordPlace {
 
 /// The fault of a record of a number that an earlier one of its file has.
 fn twin(alloc: Global, at: RecordPlace) -> ScenarioFault
-    ensures { Tells result (BadValue (in_app at.card at.app (item_path (codes "record") at.index []))) }
+    ensures { TellsFault result (BadValue (in_app at.card at.app (item_path (codes "record") at.index []))) }
 {
     let spot = Spot {
         alloc,
-        place: Place::App(at.card, at.app),
+        place: TablePlace::App(at.card, at.app),
         key: "record",
         index: Some(at.index),
     };
@@ -44,7 +44,7 @@ fn twin(alloc: Global, at: RecordPlace) -> ScenarioFault
 }
 
 /// A record behind earlier ones: no two of one number in one file.
-#[tactic(auto, unfolding(crate::specs::Cards::record_of))]
+#[tactic(auto, unfolding(crate::specs::Cards::record_of_members))]
 fn read_record(
     alloc: Global,
     at: RecordPlace,
@@ -52,11 +52,11 @@ fn read_record(
     table: &Table,
 ) -> Result<RecordImage, ScenarioFault>
     ensures new { IfOk result (λ r. IsNewRecord earlier.now r) }
-    ensures exact { Gives (λ x. x) result (record_of at.card at.app at.index earlier.now (table_view table.now)) }
+    ensures exact { Gives (λ x. x) result (record_of_members at.card at.app at.index earlier.now (table_view table.now)) }
 {
     let fields = Fields {
         alloc,
-        place: Place::Record(at.card, at.app, at.index),
+        place: TablePlace::Record(at.card, at.app, at.index),
         table,
     };
     let sfi = fields.number("sfi", 1, 30)? as u8;
@@ -83,7 +83,7 @@ fn record_item(
 {
     let spot = Spot {
         alloc,
-        place: Place::App(at.card, at.app),
+        place: TablePlace::App(at.card, at.app),
         key: "record",
         index: Some(at.index),
     };
@@ -128,7 +128,7 @@ pub fn records_at(
 {
     let fields = Fields {
         alloc,
-        place: Place::App(card, app),
+        place: TablePlace::App(card, app),
         table,
     };
     read_records(alloc, card, app, fields.array("record", 0, MOST_RECORDS)?)

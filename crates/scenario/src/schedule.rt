@@ -2,13 +2,13 @@
 ghost use Rattle.std.specs.Prelude.{◌≡◌, ◌<◌, ◌≤◌, [], length, IfOk, vec_len, codes};
 ghost use Rattle.std.specs.List.{All};
 ghost use Rattle.toml.specs.View.{view, table_view, items_view};
-ghost use Rattle.scenario_fields.specs.Fault.{Gives, Tells};
+ghost use Rattle.scenario_fields.specs.Fault.{Gives, TellsFault};
 ghost use Rattle.scenario_fields.specs.Fields.{each};
-ghost use Rattle.scenario_fields.specs.Place.{path, item_path, at_top};
+ghost use Rattle.scenario_fields.specs.TablePaths.{path, item_path, at_top};
 ghost use Rattle.scenario_fields.specs.declared.fault.ScenarioFault.TheVariants.{UnknownName};
 ghost use Rattle.scenario.specs.Schedule.{lane_number, schedule_item, schedule_at, known_lanes};
 
-use scenario_fields::{Fields, Place, ScenarioFault, Spot};
+use scenario_fields::{Fields, ScenarioFault, Spot, TablePlace};
 use std::alloc::Global;
 use toml::Value;
 
@@ -59,11 +59,11 @@ pub fn schedule_at(document: &Fields) -> Result<Vec<u8>, ScenarioFault>
 
 /// The fault of a number of the schedule that is no lane.
 fn unknown_lane(alloc: Global, index: usize) -> ScenarioFault
-    ensures { Tells result (UnknownName (at_top (item_path (codes "schedule") index []))) }
+    ensures { TellsFault result (UnknownName (at_top (item_path (codes "schedule") index []))) }
 {
     let spot = Spot {
         alloc,
-        place: Place::Top,
+        place: TablePlace::Top,
         key: "schedule",
         index: Some(index),
     };

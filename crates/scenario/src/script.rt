@@ -7,10 +7,10 @@ ghost use Rattle.script_words.specs.Spelling.{IsWord};
 ghost use Rattle.toml.specs.View.{view, table_view, items_view};
 ghost use Rattle.scenario_fields.specs.Fault.{Gives};
 ghost use Rattle.scenario_fields.specs.Fields.{only, each};
-ghost use Rattle.scenario_fields.specs.Place.{path};
-ghost use Rattle.scenario.specs.Accounts.{is_before, command_item, commands_at, script_keys, script_of, script_item, scripts_at};
+ghost use Rattle.scenario_fields.specs.TablePaths.{path};
+ghost use Rattle.scenario.specs.Accounts.{runs_before, command_item, commands_at, script_table_keys, script_of_members, script_item, scripts_at};
 
-use scenario_fields::{Fields, Place, ScenarioFault};
+use scenario_fields::{Fields, ScenarioFault, TablePlace};
 use script_words::{Ordered, Script, made_length, read_order};
 use toml::Value;
 
@@ -18,9 +18,9 @@ use toml::Value;
 pub const MOST_SCRIPT_BYTES: usize = 1_024;
 
 /// Whether a script runs before the final GENERATE AC, by the word for it.
-#[tactic(auto, unfolding(crate::specs::Accounts::is_before))]
+#[tactic(auto, unfolding(crate::specs::Accounts::runs_before))]
 fn is_before(fields: &Fields, word: &str) -> Result<bool, ScenarioFault>
-    ensures { Gives (λ before. before) result (is_before (path fields.now.place) word.now) }
+    ensures { Gives (λ before. before) result (runs_before (path fields.now.place) word.now) }
 {
     if word == "before" {
         Ok(true)
@@ -68,17 +68,17 @@ fn commands_at(fields: &Fields) -> Result<Vec<Ordered>, ScenarioFault>
     read_commands(fields, fields.array("commands", 1, 16)?)
 }
 
-#[tactic(auto, unfolding(crate::specs::Accounts::script_keys))]
+#[tactic(auto, unfolding(crate::specs::Accounts::script_table_keys))]
 fn only_script_keys(fields: &Fields) -> Result<(), ScenarioFault>
-    ensures { Gives (λ u. u) result (only (path fields.now.place) script_keys (table_view fields.now.table.now)) }
+    ensures { Gives (λ u. u) result (only (path fields.now.place) script_table_keys (table_view fields.now.table.now)) }
 {
     fields.only(&["when", "id", "commands"])
 }
 
 /// A script of an account.
-#[tactic(auto, unfolding(crate::specs::Accounts::script_of))]
+#[tactic(auto, unfolding(crate::specs::Accounts::script_of_members))]
 fn read_script(fields: &Fields) -> Result<Script, ScenarioFault>
-    ensures exact { Gives (λ script. script) result (script_of (path fields.now.place) (table_view fields.now.table.now)) }
+    ensures exact { Gives (λ script. script) result (script_of_members (path fields.now.place) (table_view fields.now.table.now)) }
     ensures rules { IfOk result IsScript }
 {
     let before = is_before(fields, fields.str_at("when")?)?;
@@ -103,7 +103,7 @@ fn script_item(
     ensures exact { Gives (λ script. script) result (script_item (path fields.now.place) account index (view value.now)) }
     ensures rules { IfOk result IsScript }
 {
-    read_script(&fields.element("scripts", index, Place::Scripts(account, index), value)?)
+    read_script(&fields.element("scripts", index, TablePlace::Scripts(account, index), value)?)
 }
 
 /// Each script of an account.

@@ -19,9 +19,9 @@ abbrev pub keep_if : {A : Type 0} → Bool → ScenarioFault → A → Result A 
 keep_if test e x = (if test then Ok x else Err e)
 
 -- a fault that was made is this one
-abbrev pub Tells : ScenarioFault → ScenarioFault → Type 0
-Tells OutOfMemory fault = ⊤
-Tells e fault = e ≡ fault
+abbrev pub TellsFault : ScenarioFault → ScenarioFault → Type 0
+TellsFault OutOfMemory fault = ⊤
+TellsFault e fault = e ≡ fault
 
 -- the fault that was answered is the one that the document has
 abbrev pub Fails : {Y : Type 0} → ScenarioFault → Result Y ScenarioFault → Type 0

@@ -6,7 +6,7 @@ use Rattle.std.specs.Ordering.{nat_cmp, is_lt}
 use Rattle.std.specs.Str.{bytes_eq}
 use Rattle.toml.specs.Data.{Data, Items, no_items, item, Members, no_members, member, get_member}
 use Rattle.scenario_fields.specs.Fault.{◌>>=◌, or_fault, keep_if}
-use Rattle.scenario_fields.specs.Place.{item_path}
+use Rattle.scenario_fields.specs.TablePaths.{item_path}
 use Rattle.scenario_fields.specs.Value.{number_of, listed_of, flag_of, str_of, text_of, digits_of, code_of, six_digits_of, day_of, bytes_of, array_of, table_of}
 use Rattle.scenario_fields.specs.declared.fault.ScenarioFault.{ScenarioFault}
 use Rattle.scenario_fields.specs.declared.fault.ScenarioFault.TheVariants.{MissingKey, BadValue, UnknownKey}

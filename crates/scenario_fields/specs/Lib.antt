@@ -1,5 +1,5 @@
 pub mod Fault
 pub mod Fields
 pub mod Line
-pub mod Place
+pub mod TablePaths
 pub mod Value

@@ -89,14 +89,14 @@ day_of path d = do
   keep_if (is_some (date_of bytes)) (BadValue path) bytes
 
 -- the bytes that the text of two hexadecimal digits a byte spells
-abbrev pub spelled : List ℕ → Result (List ℕ) FromHexError → Result (List ℕ) ScenarioFault
-spelled path (Ok bytes) = Ok bytes
-spelled path (Err fault) = Err (BadValue path)
+abbrev pub hex_spelled : List ℕ → Result (List ℕ) FromHexError → Result (List ℕ) ScenarioFault
+hex_spelled path (Ok bytes) = Ok bytes
+hex_spelled path (Err fault) = Err (BadValue path)
 
 unfoldable pub hex_of : List ℕ → Data → Result (List ℕ) ScenarioFault
 hex_of path d = do
   text ← str_of path d
-  spelled path (decode_of text)
+  hex_spelled path (decode_of text)
 
 -- from `least` to `most` bytes
 unfoldable pub bytes_of : List ℕ → ℕ → ℕ → Data → Result (List ℕ) ScenarioFault

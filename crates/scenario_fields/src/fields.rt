@@ -9,14 +9,14 @@ ghost use Rattle.emv_dict.specs.Date.{date_of, has_digits};
 ghost use Rattle.emv_dict.specs.Settings.{is_code};
 ghost use Rattle.toml.specs.Data.{get_member};
 ghost use Rattle.toml.specs.View.{view, table_view, items_view};
-ghost use Rattle.scenario_fields.specs.Fault.{Tells, Fails, Gives};
-ghost use Rattle.scenario_fields.specs.Place.{path, spot_path};
+ghost use Rattle.scenario_fields.specs.Fault.{TellsFault, Fails, Gives};
+ghost use Rattle.scenario_fields.specs.TablePaths.{path, spot_path};
 ghost use Rattle.scenario_fields.specs.Value.{is_one_of, is_listed};
 ghost use Rattle.scenario_fields.specs.Fields.{required, absent, number_at, number_or, optional_number, listed_or, flag_or, str_at, text_at, digits_at, optional_digits, code_at, optional_code, six_digits_or, day_at, bytes_at, optional_bytes, array_at, array_or_none, table_at, optional_table, table_item, digits_item, digits_list, each, only, least_other};
 ghost use Rattle.scenario_fields.specs.declared.fault.ScenarioFault.TheVariants.{MissingKey, UnknownKey};
 
 use crate::fault::{Path, ScenarioFault};
-use crate::place::{Place, path_text};
+use crate::place::{TablePlace, path_text};
 use crate::spot::{Characters, Spot};
 use arrayvec::ArrayVec;
 use emv_dict::Digits;
@@ -35,7 +35,7 @@ fn member<'a>(table: &'a Table, key: &str) -> Option<&'a Value>
 pub struct Fields<'a> {
     pub alloc: Global,
     /// Which table it is.
-    pub place: Place,
+    pub place: TablePlace,
     pub table: &'a Table,
 }
 
@@ -56,7 +56,7 @@ impl<'a> Fields<'a> {
 
     /// The fault of a key that is absent.
     fn missing(&self, key: &str) -> ScenarioFault
-        ensures { Tells result (MissingKey (path self.now.place key.now)) }
+        ensures { TellsFault result (MissingKey (path self.now.place key.now)) }
     {
         match path_text(self.alloc, self.place, key) {
             Ok(text) => ScenarioFault::MissingKey {
@@ -68,7 +68,7 @@ impl<'a> Fields<'a> {
 
     /// The fault of a key that the table doesn't know.
     fn unknown(&self, key: &str) -> ScenarioFault
-        ensures { Tells result (UnknownKey (path self.now.place key.now)) }
+        ensures { TellsFault result (UnknownKey (path self.now.place key.now)) }
     {
         match path_text(self.alloc, self.place, key) {
             Ok(text) => ScenarioFault::UnknownKey {
@@ -386,7 +386,7 @@ impl<'a> Fields<'a> {
 
     /// The keys of the table at a key, which is this place.
     #[tactic(auto, unfolding(crate::specs::Fields::table_at))]
-    pub fn inner(&self, key: &str, place: Place) -> Result<Fields<'a>, ScenarioFault>
+    pub fn inner(&self, key: &str, place: TablePlace) -> Result<Fields<'a>, ScenarioFault>
         ensures exact { Gives (λ f. table_view f.table.now) result (table_at (path self.now.place) key.now (table_view self.now.table.now)) }
         ensures place { IfOk result (λ f. f.place ≡ place) }
     {
@@ -403,7 +403,7 @@ impl<'a> Fields<'a> {
     pub fn optional_inner(
         &self,
         key: &str,
-        place: Place,
+        place: TablePlace,
     ) -> Result<Option<Fields<'a>>, ScenarioFault>
         ensures exact { Gives (λ o. option_map (λ f. table_view f.table.now) o) result (optional_table (path self.now.place) key.now (table_view self.now.table.now)) }
         ensures place { IfOk result (λ o. IfSome o (λ f. f.place ≡ place)) }
@@ -425,7 +425,7 @@ impl<'a> Fields<'a> {
         &self,
         key: &str,
         index: usize,
-        place: Place,
+        place: TablePlace,
         value: &'v Value,
     ) -> Result<Fields<'v>, ScenarioFault>
         ensures exact { Gives (λ f. table_view f.table.now) result (table_item (path self.now.place) key.now index (view value.now)) }

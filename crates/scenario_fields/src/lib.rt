@@ -9,5 +9,5 @@ pub mod spot;
 
 pub use fault::{Path, ScenarioFault};
 pub use fields::Fields;
-pub use place::{LaneAt, Place};
+pub use place::{LaneAt, TablePlace};
 pub use spot::{Characters, Spot};

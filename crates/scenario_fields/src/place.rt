@@ -1,5 +1,5 @@
 ghost use Rattle.std.specs.Prelude.{◌≡◌, IfOk, string_bytes};
-ghost use Rattle.scenario_fields.specs.Place.{in_purchase, in_tear, in_terminal_tear, path, spot_key, spot_path};
+ghost use Rattle.scenario_fields.specs.TablePaths.{in_purchase, in_tear, in_terminal_tear, path, spot_key, spot_path};
 
 use std::alloc::{AllocError, Global};
 
@@ -15,7 +15,7 @@ pub enum LaneAt {
 /// A table of a scenario. Each number is the index, from 0, of the table among its kind in the table
 /// around it.
 #[derive(Clone, Copy, PartialEq, Eq, Debug)]
-pub enum Place {
+pub enum TablePlace {
     /// The document itself.
     Top,
     /// The issuer's keys.
@@ -43,24 +43,24 @@ pub enum Place {
 }
 
 /// The path of a key of a table.
-pub fn path_text(alloc: Global, place: Place, key: &str) -> Result<String, AllocError>
+pub fn path_text(alloc: Global, place: TablePlace, key: &str) -> Result<String, AllocError>
     ensures { IfOk result (λ t. string_bytes t ≡ path place key.now) }
 {
     match place {
-        Place::Top => format!(in alloc; "{key}"),
-        Place::Issuer => format!(in alloc; "issuer.{key}"),
-        Place::Account(i) => format!(in alloc; "account[{i}].{key}"),
-        Place::Scripts(i, j) => format!(in alloc; "account[{i}].scripts[{j}].{key}"),
-        Place::Card(i) => format!(in alloc; "card[{i}].{key}"),
-        Place::App(i, j) => format!(in alloc; "card[{i}].app[{j}].{key}"),
-        Place::Record(i, j, k) => format!(in alloc; "card[{i}].app[{j}].record[{k}].{key}"),
-        Place::Lane(LaneAt::Numbered(i)) => format!(in alloc; "lane[{i}].{key}"),
-        Place::Lane(LaneAt::Only) => format!(in alloc; "lane.{key}"),
-        Place::Aid(LaneAt::Numbered(i), j) => format!(in alloc; "lane[{i}].aid[{j}].{key}"),
-        Place::Aid(LaneAt::Only, j) => format!(in alloc; "lane.aid[{j}].{key}"),
-        Place::Purchase(lane, j) => purchase_text(alloc, lane, j, key),
-        Place::Tear(lane, j) => tear_text(alloc, lane, j, key),
-        Place::TerminalTear(lane, j) => terminal_tear_text(alloc, lane, j, key),
+        TablePlace::Top => format!(in alloc; "{key}"),
+        TablePlace::Issuer => format!(in alloc; "issuer.{key}"),
+        TablePlace::Account(i) => format!(in alloc; "account[{i}].{key}"),
+        TablePlace::Scripts(i, j) => format!(in alloc; "account[{i}].scripts[{j}].{key}"),
+        TablePlace::Card(i) => format!(in alloc; "card[{i}].{key}"),
+        TablePlace::App(i, j) => format!(in alloc; "card[{i}].app[{j}].{key}"),
+        TablePlace::Record(i, j, k) => format!(in alloc; "card[{i}].app[{j}].record[{k}].{key}"),
+        TablePlace::Lane(LaneAt::Numbered(i)) => format!(in alloc; "lane[{i}].{key}"),
+        TablePlace::Lane(LaneAt::Only) => format!(in alloc; "lane.{key}"),
+        TablePlace::Aid(LaneAt::Numbered(i), j) => format!(in alloc; "lane[{i}].aid[{j}].{key}"),
+        TablePlace::Aid(LaneAt::Only, j) => format!(in alloc; "lane.aid[{j}].{key}"),
+        TablePlace::Purchase(lane, j) => purchase_text(alloc, lane, j, key),
+        TablePlace::Tear(lane, j) => tear_text(alloc, lane, j, key),
+        TablePlace::TerminalTear(lane, j) => terminal_tear_text(alloc, lane, j, key),
     }
 }
 

@@ -7,13 +7,13 @@ ghost use Rattle.scenario_fields.specs.declared.spot.Characters.TheVariants.{Dig
 ghost use Rattle.arrayvec.specs.ArrayVec.{array_vec_len};
 ghost use Rattle.toml.specs.Data.{Items};
 ghost use Rattle.toml.specs.View.{view, table_view, array_view, items_view};
-ghost use Rattle.scenario_fields.specs.Fault.{Tells, Fails, Gives};
-ghost use Rattle.scenario_fields.specs.Place.{path, spot_path};
+ghost use Rattle.scenario_fields.specs.Fault.{TellsFault, Fails, Gives};
+ghost use Rattle.scenario_fields.specs.TablePaths.{path, spot_path};
 ghost use Rattle.scenario_fields.specs.Value.{number_of, listed_of, flag_of, str_of, text_of, digits_of, code_of, six_digits_of, day_of, hex_of, bytes_of, array_of, table_of, count, is_one_of, is_listed};
 ghost use Rattle.scenario_fields.specs.declared.fault.ScenarioFault.TheVariants.{BadValue, OutOfLimit, UnknownName};
 
 use crate::fault::{Path, ScenarioFault};
-use crate::place::{Place, item_text, path_text};
+use crate::place::{TablePlace, item_text, path_text};
 use arrayvec::ArrayVec;
 use emv_dict::{Date, Digits};
 use hex::FromHexError;
@@ -63,7 +63,7 @@ fn all_have(kind: Characters, text: &[u8]) -> bool
 #[derive(Clone, Copy)]
 pub struct Spot<'a> {
     pub alloc: Global,
-    pub place: Place,
+    pub place: TablePlace,
     pub key: &'a str,
     /// The index of the item, where it is one of an array.
     pub index: Option<usize>,
@@ -85,7 +85,7 @@ impl<'a> Spot<'a> {
 
     /// The fault of a value whose type or content is wrong.
     pub fn bad(&self) -> ScenarioFault
-        ensures { Tells result (BadValue (spot_path self.now.place self.now.key.now self.now.index)) }
+        ensures { TellsFault result (BadValue (spot_path self.now.place self.now.key.now self.now.index)) }
     {
         match self.path() {
             Ok(path) => ScenarioFault::BadValue { path },
@@ -95,7 +95,7 @@ impl<'a> Spot<'a> {
 
     /// The fault of a value beyond its limit.
     pub fn far(&self) -> ScenarioFault
-        ensures { Tells result (OutOfLimit (spot_path self.now.place self.now.key.now self.now.index)) }
+        ensures { TellsFault result (OutOfLimit (spot_path self.now.place self.now.key.now self.now.index)) }
     {
         match self.path() {
             Ok(path) => ScenarioFault::OutOfLimit { path },
@@ -105,7 +105,7 @@ impl<'a> Spot<'a> {
 
     /// The fault of a name that nothing has.
     pub fn unknown_name(&self) -> ScenarioFault
-        ensures { Tells result (UnknownName (spot_path self.now.place self.now.key.now self.now.index)) }
+        ensures { TellsFault result (UnknownName (spot_path self.now.place self.now.key.now self.now.index)) }
     {
         match self.path() {
             Ok(path) => ScenarioFault::UnknownName { path },

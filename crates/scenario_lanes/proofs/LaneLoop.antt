@@ -11,7 +11,7 @@ use Rattle.scenario_fields.specs.Fields.{with_front}
 use Rattle.scenario_fields.specs.declared.fault.ScenarioFault.{ScenarioFault}
 use Rattle.scenario_fields.specs.declared.place.LaneAt.TheVariants.{Numbered}
 use Rattle.scenario_lanes.specs.Lanes.{lane_item, lanes_from}
-use Rattle.scenario_lanes.specs.Plan.{LaneData, HasRoom, HaveRoom, purchase_count}
+use Rattle.scenario_lanes.specs.Plan.{LaneData, HasOwnPages, HaveRoom, purchase_count}
 
 lanes_step : (path : List ℕ → List ℕ) (names : List (List ℕ)) (pin : List ℕ) (front : List LaneData) (i earlier : ℕ) (d : Data) (ds : Items) (x : LaneData) →
     lane_item path i earlier names pin d ≡ Ok x →
@@ -59,11 +59,11 @@ push_at (y ∷ ys) e (suc k) x here =
 
 -- the room of one more lane
 pub HaveRoom-push : (cards : ℕ) (lanes : List LaneData) (x : LaneData) (j : ℕ) → j ≡ length lanes → HaveRoom cards lanes
-    → (x.durable ≡ true → HasRoom cards (Numbered j)) → HaveRoom cards (lanes ++ x ∷ [])
+    → (x.durable ≡ true → HasOwnPages cards (Numbered j)) → HaveRoom cards (lanes ++ x ∷ [])
 HaveRoom-push cards lanes x j at before here i lane there durable =
     elim (push_at lanes x i lane there) [
       | inl old ↦ before i lane old durable
       | inr new ↦
-          let at_end : HasRoom cards (Numbered j) = here (ap (λ (l : LaneData). l.durable) new.1 ∙ durable) in
-          subst (λ (k : ℕ). HasRoom cards (Numbered k)) (at ∙ sym new.0) at_end
+          let at_end : HasOwnPages cards (Numbered j) = here (ap (λ (l : LaneData). l.durable) new.1 ∙ durable) in
+          subst (λ (k : ℕ). HasOwnPages cards (Numbered k)) (at ∙ sym new.0) at_end
     ]

@@ -1,7 +1,7 @@
 -- Whether the cards that purchases name are there: tried behind the whole document.
 use Rattle.std.specs.Prelude.{ℕ, ◌+◌, List, [], ◌∷◌, codes, nat_lt, Result, Ok, Err, if◌then◌else◌}
 use Rattle.scenario_fields.specs.Fault.{◌>>=◌}
-use Rattle.scenario_fields.specs.Place.{in_purchase}
+use Rattle.scenario_fields.specs.TablePaths.{in_purchase}
 use Rattle.scenario_fields.specs.declared.place.LaneAt.TheVariants.{Numbered}
 use Rattle.scenario_fields.specs.declared.fault.ScenarioFault.{ScenarioFault}
 use Rattle.scenario_fields.specs.declared.fault.ScenarioFault.TheVariants.{UnknownName}

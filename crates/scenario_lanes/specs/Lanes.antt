@@ -8,7 +8,7 @@ use Rattle.emv_dict.specs.declared.purchase.AidRow.{AidRow}
 use Rattle.toml.specs.Data.{Data, Items, no_items, item, Members, get_member}
 use Rattle.scenario_fields.specs.Fault.{◌>>=◌}
 use Rattle.scenario_fields.specs.Fields.{number_at, flag_or, text_at, code_at, bytes_at, array_at, digits_list, table_item, or_default, each, only}
-use Rattle.scenario_fields.specs.Place.{in_lane, in_aid}
+use Rattle.scenario_fields.specs.TablePaths.{in_lane, in_aid}
 use Rattle.scenario_fields.specs.Value.{str_of, flag_of}
 use Rattle.scenario_fields.specs.declared.place.LaneAt.{LaneAt}
 use Rattle.scenario_fields.specs.declared.place.LaneAt.TheVariants.{Numbered, Only}

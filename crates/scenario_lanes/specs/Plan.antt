@@ -56,10 +56,10 @@ abbrev pub last_pages : ℕ
 last_pages = 63
 
 -- the page object of a lane's store is none of so many cards'
-abbrev pub HasRoom : ℕ → LaneAt → Type 0
-HasRoom cards (Numbered i) = cards ≤ last_pages - i
-HasRoom cards Only = Unit {0}
+abbrev pub HasOwnPages : ℕ → LaneAt → Type 0
+HasOwnPages cards (Numbered i) = cards ≤ last_pages - i
+HasOwnPages cards Only = Unit {0}
 
 -- so for each lane that has a store
 abbrev pub HaveRoom : ℕ → List LaneData → Type 0
-HaveRoom cards lanes = (i : ℕ) (lane : LaneData) → slice_get lanes i ≡ Some lane → lane.durable ≡ true → HasRoom cards (Numbered i)
+HaveRoom cards lanes = (i : ℕ) (lane : LaneData) → slice_get lanes i ≡ Some lane → lane.durable ≡ true → HasOwnPages cards (Numbered i)

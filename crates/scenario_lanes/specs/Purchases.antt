@@ -10,7 +10,7 @@ use Rattle.emv_ports.specs.declared.tear.TearAt.TheVariants.{Before, Within, Rel
 use Rattle.toml.specs.Data.{Data, Members, get_member}
 use Rattle.scenario_fields.specs.Fault.{◌>>=◌}
 use Rattle.scenario_fields.specs.Fields.{number_at, number_or, listed_or, flag_or, str_at, text_at, code_at, six_digits_or, day_at, array_at, optional_table, table_item, digits_list, or_default, each, only}
-use Rattle.scenario_fields.specs.Place.{in_purchase, in_tear, in_terminal_tear}
+use Rattle.scenario_fields.specs.TablePaths.{in_purchase, in_tear, in_terminal_tear}
 use Rattle.scenario_fields.specs.Value.{str_of}
 use Rattle.scenario_fields.specs.declared.place.LaneAt.{LaneAt}
 use Rattle.scenario_fields.specs.declared.place.LaneAt.TheVariants.{Numbered, Only}
@@ -84,15 +84,15 @@ link_or_sound at path ms = or_default Sound (link_in at (path (codes "link"))) (
 
 -- The index of the first card of this name. A card that isn't there is no fault before the whole document
 -- is walked: until then the number of cards stands for it, as 255 does for a number that is no lane.
-unfoldable pub place_of : List ℕ → List (List ℕ) → ℕ
-place_of name [] = 0
-place_of name (n ∷ names) = (if bytes_eq n name then 0 else place_of name names + 1)
+unfoldable pub card_index : List ℕ → List (List ℕ) → ℕ
+card_index name [] = 0
+card_index name (n ∷ names) = (if bytes_eq n name then 0 else card_index name names + 1)
 
 -- the index of the card
-unfoldable pub card_at : (List ℕ → List ℕ) → List (List ℕ) → Members → Result ℕ ScenarioFault
-card_at path names ms = do
+unfoldable pub card_index_at : (List ℕ → List ℕ) → List (List ℕ) → Members → Result ℕ ScenarioFault
+card_index_at path names ms = do
   name ← text_at path (codes "card") LowercaseOrDigit 1 16 ms
-  Ok (place_of name names)
+  Ok (card_index name names)
 
 -- what the terminal is asked for
 unfoldable pub purchase_of : (List ℕ → List ℕ) → Members → Result PurchaseData ScenarioFault
@@ -133,7 +133,7 @@ planned_keys =
 -- purchase `j` of a lane, with the names of the cards
 unfoldable pub planned_of : (List ℕ → List ℕ) → LaneAt → ℕ → List (List ℕ) → Members → Result Planned ScenarioFault
 planned_of path at j names ms = do
-  card ← card_at path names ms
+  card ← card_index_at path names ms
   purchase ← purchase_of path ms
   link ← link_or_sound at path ms
   tear ← tear_at path (in_tear at j) (codes "tear") at ms

@@ -1,24 +1,24 @@
 //! Whether the cards that purchases name are there.
 ghost use Rattle.std.specs.Prelude.{◌≡◌, ◌<◌, IfOk, codes};
 ghost use Rattle.std.specs.List.{All};
-ghost use Rattle.scenario_fields.specs.Fault.{Gives, Tells};
-ghost use Rattle.scenario_fields.specs.Place.{in_purchase};
+ghost use Rattle.scenario_fields.specs.Fault.{Gives, TellsFault};
+ghost use Rattle.scenario_fields.specs.TablePaths.{in_purchase};
 ghost use Rattle.scenario_fields.specs.declared.fault.ScenarioFault.TheVariants.{UnknownName};
 ghost use Rattle.scenario_fields.specs.declared.place.LaneAt.TheVariants.{Numbered};
 ghost use Rattle.scenario_lanes.specs.Cards.{known_in_lane, known_from};
 ghost use Rattle.scenario_lanes.specs.Plan.{HasCards};
 
 use crate::plan::{Lane, Planned};
-use scenario_fields::{LaneAt, Place, ScenarioFault, Spot};
+use scenario_fields::{LaneAt, ScenarioFault, Spot, TablePlace};
 use std::alloc::Global;
 
 /// The fault of a purchase whose card is none.
 fn unknown_card(alloc: Global, lane: usize, purchase: usize) -> ScenarioFault
-    ensures { Tells result (UnknownName (in_purchase (Numbered lane) purchase (codes "card"))) }
+    ensures { TellsFault result (UnknownName (in_purchase (Numbered lane) purchase (codes "card"))) }
 {
     let spot = Spot {
         alloc,
-        place: Place::Purchase(LaneAt::Numbered(lane), purchase),
+        place: TablePlace::Purchase(LaneAt::Numbered(lane), purchase),
         key: "card",
         index: None,
     };

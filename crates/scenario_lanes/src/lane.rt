@@ -5,15 +5,15 @@ ghost use Rattle.emv_dict.specs.Settings.{IsAidRow, IsSettings};
 ghost use Rattle.toml.specs.View.{view, table_view, items_view};
 ghost use Rattle.scenario_fields.specs.Fault.{Gives};
 ghost use Rattle.scenario_fields.specs.Fields.{only, each};
-ghost use Rattle.scenario_fields.specs.Place.{path, spot_path};
+ghost use Rattle.scenario_fields.specs.TablePaths.{path, spot_path};
 ghost use Rattle.scenario_lanes.specs.Lanes.{aid_keys, aid_of, aid_item, aids_at, lane_keys, settings_of, dialect_named, dialect_in, dialect_or_tlv, durable_on, durable_in, durable_or_not, lane_of, traced_lane, lane_item, lanes_from, lanes_at};
-ghost use Rattle.scenario_lanes.specs.Plan.{IsLane, HasRoom, HaveRoom, last_pages, purchase_count};
+ghost use Rattle.scenario_lanes.specs.Plan.{IsLane, HasOwnPages, HaveRoom, last_pages, purchase_count};
 ghost use Rattle.scenario_fields.specs.declared.place.LaneAt.TheVariants.{Numbered};
 
 use crate::plan::Lane;
 use crate::purchase::{purchases_at, try_terminal_tears};
 use emv_dict::{AidRow, LEAST_PAN, MOST_AMOUNT, MOST_PAN, Name, Settings};
-use scenario_fields::{Characters, Fields, LaneAt, Place, ScenarioFault, Spot};
+use scenario_fields::{Characters, Fields, LaneAt, ScenarioFault, Spot, TablePlace};
 use std::alloc::Global;
 use toml::{Table, Value};
 
@@ -84,7 +84,7 @@ fn aid_item(
     ensures exact { Gives (λ row. row) result (aid_item (path fields.now.place) lane index (view value.now)) }
     ensures rules { IfOk result IsAidRow }
 {
-    read_aid(&fields.element("aid", index, Place::Aid(lane, index), value)?)
+    read_aid(&fields.element("aid", index, TablePlace::Aid(lane, index), value)?)
 }
 
 /// Each application of a lane.
@@ -211,7 +211,7 @@ fn durable_on(spot: &Spot, lane: usize, cards: usize, durable: bool) -> Result<b
 /// store.
 fn durable_in(spot: &Spot, lane: LaneAt, cards: usize, value: &Value) -> Result<bool, ScenarioFault>
     ensures exact { Gives (λ durable. durable) result (durable_in cards lane (spot_path spot.now.place spot.now.key.now spot.now.index) (view value.now)) }
-    ensures room { IfOk result (λ durable. durable ≡ true → HasRoom cards lane) }
+    ensures room { IfOk result (λ durable. durable ≡ true → HasOwnPages cards lane) }
 {
     match lane {
         LaneAt::Numbered(index) => durable_on(spot, index, cards, spot.flag(value)?),
@@ -223,7 +223,7 @@ fn durable_in(spot: &Spot, lane: LaneAt, cards: usize, value: &Value) -> Result<
 #[tactic(auto, unfolding(crate::specs::Lanes::durable_or_not))]
 fn durable_or_not(fields: &Fields, lane: LaneAt, cards: usize) -> Result<bool, ScenarioFault>
     ensures exact { Gives (λ durable. durable) result (durable_or_not cards lane (path fields.now.place) (table_view fields.now.table.now)) }
-    ensures room { IfOk result (λ durable. durable ≡ true → HasRoom cards lane) }
+    ensures room { IfOk result (λ durable. durable ≡ true → HasOwnPages cards lane) }
 {
     match fields.optional("durable") {
         Some(value) => durable_in(&fields.spot("durable"), lane, cards, value),
@@ -245,7 +245,7 @@ fn lane_with(
     ensures some { IfOk result (λ lane. least ≤ length lane.purchases) }
     ensures few { IfOk result (λ lane. length lane.purchases ≤ most) }
     ensures rules { IfOk result IsLane }
-    ensures room { IfOk result (λ found. found.durable ≡ true → HasRoom (length cards.now) lane) }
+    ensures room { IfOk result (λ found. found.durable ≡ true → HasOwnPages (length cards.now) lane) }
     ensures pin { IfOk result (λ lane. lane.settings.pin_key ≡ pin_key) }
 {
     let settings = read_settings(fields, lane, pin_key)?;
@@ -276,7 +276,7 @@ pub fn read_lane(alloc: Global, table: &Table, pin_key: [u8; 16]) -> Result<Lane
 {
     let fields = Fields {
         alloc,
-        place: Place::Lane(LaneAt::Only),
+        place: TablePlace::Lane(LaneAt::Only),
         table,
     };
     lane_with(&fields, LaneAt::Only, 1, 1, &[], pin_key)
@@ -296,11 +296,11 @@ fn lane_item(
     ensures exact { Gives (λ lane. lane) result (lane_item (path document.now.place) lane earlier (map (λ name. name.now) cards.now) pin_key (view value.now)) }
     ensures count { IfOk result (λ lane. earlier + length lane.purchases ≤ 10000) }
     ensures rules { IfOk result IsLane }
-    ensures room { IfOk result (λ found. found.durable ≡ true → HasRoom (length cards.now) (Numbered lane)) }
+    ensures room { IfOk result (λ found. found.durable ≡ true → HasOwnPages (length cards.now) (Numbered lane)) }
     ensures pin { IfOk result (λ lane. lane.settings.pin_key ≡ pin_key) }
 {
     let at = LaneAt::Numbered(lane);
-    let fields = document.element("lane", lane, Place::Lane(at), value)?;
+    let fields = document.element("lane", lane, TablePlace::Lane(at), value)?;
     lane_with(&fields, at, 0, MOST_PURCHASES - earlier, cards, pin_key)
 }
 

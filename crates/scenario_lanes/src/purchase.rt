@@ -3,17 +3,17 @@ ghost use Rattle.std.specs.Prelude.{◌≡◌, ◌≤◌, ◌==◌, ◌||◌, []
 ghost use Rattle.std.specs.List.{All};
 ghost use Rattle.emv_dict.specs.Settings.{IsPurchase};
 ghost use Rattle.toml.specs.View.{view, table_view, items_view};
-ghost use Rattle.scenario_fields.specs.Fault.{Gives, Tells};
+ghost use Rattle.scenario_fields.specs.Fault.{Gives, TellsFault};
 ghost use Rattle.scenario_fields.specs.Fields.{listed_or, only, each};
-ghost use Rattle.scenario_fields.specs.Place.{path, spot_path, in_purchase};
+ghost use Rattle.scenario_fields.specs.TablePaths.{path, spot_path, in_purchase};
 ghost use Rattle.scenario_fields.specs.declared.fault.ScenarioFault.TheVariants.{BadValue};
 ghost use Rattle.scenario_lanes.specs.Plan.{IsPlanned};
-ghost use Rattle.scenario_lanes.specs.Purchases.{link_named, link_of, link_in, link_or_sound, place_of, card_at, purchase_of, planned_keys, planned_of, planned_item, purchases_at, no_terminal_tears, tears_tried};
+ghost use Rattle.scenario_lanes.specs.Purchases.{link_named, link_of, link_in, link_or_sound, card_index, card_index_at, purchase_of, planned_keys, planned_of, planned_item, purchases_at, no_terminal_tears, tears_tried};
 
 use crate::plan::{Link, Planned};
 use crate::tear::tear_at;
 use emv_dict::{MOST_AMOUNT, Purchase};
-use scenario_fields::{Characters, Fields, LaneAt, Place, ScenarioFault, Spot};
+use scenario_fields::{Characters, Fields, LaneAt, ScenarioFault, Spot, TablePlace};
 use toml::Value;
 
 /// What becomes of a message, by the word for it.
@@ -64,9 +64,9 @@ fn link_or_sound(fields: &Fields, lane: LaneAt) -> Result<Link, ScenarioFault>
 }
 
 /// The index of the first card of this name, or the number of cards where none has it.
-#[tactic(auto, unfolding(crate::specs::Purchases::place_of))]
+#[tactic(auto, unfolding(crate::specs::Purchases::card_index))]
 fn place_of(name: &[u8], cards: &[&[u8]]) -> usize
-    ensures place { result ≡ place_of name.now (map (λ card. card.now) cards.now) }
+    ensures place { result ≡ card_index name.now (map (λ card. card.now) cards.now) }
     ensures within { result ≤ length cards.now }
 {
     match cards {
@@ -82,9 +82,9 @@ fn place_of(name: &[u8], cards: &[&[u8]]) -> usize
 }
 
 /// The index of a purchase's card.
-#[tactic(auto, unfolding(crate::specs::Purchases::card_at))]
+#[tactic(auto, unfolding(crate::specs::Purchases::card_index_at))]
 fn card_at(fields: &Fields, cards: &[&[u8]]) -> Result<usize, ScenarioFault>
-    ensures { Gives (λ card. card) result (card_at (path fields.now.place) (map (λ card. card.now) cards.now) (table_view fields.now.table.now)) }
+    ensures { Gives (λ card. card) result (card_index_at (path fields.now.place) (map (λ card. card.now) cards.now) (table_view fields.now.table.now)) }
 {
     let name = fields.text("card", Characters::LowercaseOrDigit, 1, 16)?;
     Ok(place_of(name, cards))
@@ -171,8 +171,8 @@ fn read_planned(
     let card = card_at(fields, cards)?;
     let purchase = read_purchase(fields)?;
     let link = link_or_sound(fields, lane)?;
-    let tear = tear_at(fields, lane, "tear", Place::Tear(lane, index))?;
-    let inner = Place::TerminalTear(lane, index);
+    let tear = tear_at(fields, lane, "tear", TablePlace::Tear(lane, index))?;
+    let inner = TablePlace::TerminalTear(lane, index);
     let terminal_tear = tear_at(fields, lane, "terminal_tear", inner)?;
     only_planned_keys(fields)?;
     Ok(Planned {
@@ -196,7 +196,7 @@ fn planned_item(
     ensures exact { Gives (λ planned. planned) result (planned_item (path fields.now.place) lane (map (λ card. card.now) cards.now) index (view value.now)) }
     ensures rules { IfOk result IsPlanned }
 {
-    let inner = fields.element("purchase", index, Place::Purchase(lane, index), value)?;
+    let inner = fields.element("purchase", index, TablePlace::Purchase(lane, index), value)?;
     read_planned(&inner, lane, index, cards)
 }
 
@@ -238,11 +238,11 @@ pub fn purchases_at(
 
 /// The fault of a purchase whose terminal has no store that could be torn.
 fn terminal_tear_fault(fields: &Fields, lane: LaneAt, index: usize) -> ScenarioFault
-    ensures { Tells result (BadValue (in_purchase lane index (codes "terminal_tear"))) }
+    ensures { TellsFault result (BadValue (in_purchase lane index (codes "terminal_tear"))) }
 {
     let spot = Spot {
         alloc: fields.alloc,
-        place: Place::Purchase(lane, index),
+        place: TablePlace::Purchase(lane, index),
         key: "terminal_tear",
         index: None,
     };

@@ -5,12 +5,12 @@ ghost use Rattle.toml.specs.Data.{get_member};
 ghost use Rattle.toml.specs.View.{table_view};
 ghost use Rattle.scenario_fields.specs.Fault.{Gives};
 ghost use Rattle.scenario_fields.specs.Fields.{only};
-ghost use Rattle.scenario_fields.specs.Place.{path};
+ghost use Rattle.scenario_fields.specs.TablePaths.{path};
 ghost use Rattle.scenario_lanes.specs.Plan.{IsEarly, write_number};
 ghost use Rattle.scenario_lanes.specs.Purchases.{without_write, moment_of, tear_keys, tear_of, tear_in, tear_at};
 
 use emv_ports::{Tear, TearAt};
-use scenario_fields::{Fields, LaneAt, Place, ScenarioFault};
+use scenario_fields::{Fields, LaneAt, ScenarioFault, TablePlace};
 
 /// A cut at the release, beside which no write may stand.
 fn without_write(fields: &Fields) -> Result<TearAt, ScenarioFault>
@@ -80,7 +80,7 @@ pub fn tear_at(
     fields: &Fields,
     lane: LaneAt,
     key: &str,
-    place: Place,
+    place: TablePlace,
 ) -> Result<Option<Tear>, ScenarioFault>
     ensures exact { Gives (λ tear. tear) result (tear_at (path fields.now.place) (path place) key.now lane (table_view fields.now.table.now)) }
     ensures plan { IfOk result (λ tear. IsTrue (is_plan tear)) }

@@ -8,10 +8,10 @@ use Rattle.ber_tlv.specs.Left.{items_of}
 use Rattle.ber_tlv.specs.declared.item.TlvFault.{TlvFault}
 use Rattle.emv_dict.specs.Progress.{Leads}
 use Rattle.script_run.specs.Ran.{ran, script_ran, template_ran}
-use Rattle.script_run.specs.Script.{ScriptData, is_command, no_identifier, with_commands, script_read, script_of, commands_of}
+use Rattle.script_run.specs.Script.{ReadScript, is_command, no_identifier, with_commands, script_read, script_of, commands_of}
 
 -- the script has these commands
-abbrev HasCommands : Option ScriptData → List (List ℕ) → Type 0
+abbrev HasCommands : Option ReadScript → List (List ℕ) → Type 0
 HasCommands None commands = Unit {0}
 HasCommands (Some script) commands = script.commands ≡ commands
 
@@ -43,7 +43,7 @@ script_read-has (Ok []) = refl
 script_read-has (Ok (item ∷ items)) = named-has (item.tag == 0x9F18) (length item.value == 4) item items refl
 script_read-has (Err fault) = tt
 
-script_ran-same : (script : Option ScriptData) (commands : List (List ℕ)) (identifier : List ℕ) (later : List (List ℕ)) → HasCommands script commands → Some identifier ≡ option_map (λ s. s.identifier) script
+script_ran-same : (script : Option ReadScript) (commands : List (List ℕ)) (identifier : List ℕ) (later : List (List ℕ)) → HasCommands script commands → Some identifier ≡ option_map (λ s. s.identifier) script
     → script_ran script later ≡ ran identifier 1 commands later
 script_ran-same None commands identifier later has is = cc
 script_ran-same (Some script) commands identifier later has is =

@@ -1,4 +1,4 @@
 mod Form
-mod Bounds
+pub mod Bounds
 mod Stages
 mod Templates

@@ -5,14 +5,14 @@ use Rattle.apdu_core.specs.Response.{response_of}
 use Rattle.emv_dict.proofs.Steps.{leads_more, leads_now}
 use Rattle.emv_dict.specs.Progress.{Progress, Wants, Done, Leads}
 use Rattle.script_run.specs.Laws.{AllWentOn}
-use Rattle.script_run.specs.Ran.{all_went_on, failed_at, goes_on, exchanged, ran}
+use Rattle.script_run.specs.Ran.{all_went_on, failed_at, goes_on, command_then, ran}
 
 pub ran-end : (identifier : List ℕ) (number : ℕ) (answers : List (List ℕ)) → ran identifier number [] answers ≡ Done (all_went_on identifier) answers
 unfolding ran
 ran-end identifier number answers = refl
 
 pub ran-sent : (identifier : List ℕ) (number : ℕ) (command : List ℕ) (commands answers : List (List ℕ)) → is_some (command_of command) ≡ true
-    → ran identifier number (command ∷ commands) answers ≡ exchanged command (failed_at identifier number) (ran identifier (number + 1) commands) answers
+    → ran identifier number (command ∷ commands) answers ≡ command_then command (failed_at identifier number) (ran identifier (number + 1) commands) answers
 unfolding ran
 ran-sent identifier number command commands answers is = rw is refl
 

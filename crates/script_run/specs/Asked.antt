@@ -5,7 +5,7 @@ use Rattle.ber_tlv.specs.Left.{items_of}
 use Rattle.script_run.specs.Script.{commands_of}
 
 -- the command of a template that has so many before it is there, and its bytes are a command
-pub record IsAsked (template : List ℕ) (before : ℕ) : Type 0 where
+pub record IsCommandAsked (template : List ℕ) (before : ℕ) : Type 0 where
   pub whole : IsOk (items_of template)
   pub command : List ℕ
   pub later : List (List ℕ)

@@ -4,7 +4,7 @@ use Rattle.apdu_core.specs.Command.{command_of}
 use Rattle.apdu_core.specs.Response.{ResponseData, response_of}
 use Rattle.apdu_core.specs.Status.{is_warning}
 use Rattle.emv_dict.specs.Progress.{Progress, Wants, Done}
-use Rattle.script_run.specs.Script.{ScriptData, script_of}
+use Rattle.script_run.specs.Script.{ReadScript, script_of}
 
 -- the result of a script whose commands all went on: 20 and the identifier
 abbrev pub all_went_on : List ℕ → List ℕ
@@ -28,18 +28,18 @@ unfoldable pub goes_on : List ℕ → Bool
 goes_on answer = said_goes_on (response_of answer)
 
 -- a command and its answer: the result where it failed, else what follows
-abbrev pub exchanged : List ℕ → List ℕ → (List (List ℕ) → Progress (List ℕ)) → List (List ℕ) → Progress (List ℕ)
-exchanged command failed next [] = Wants command
-exchanged command failed next (answer ∷ answers) = (if goes_on answer then next answers else Done failed answers)
+abbrev pub command_then : List ℕ → List ℕ → (List (List ℕ) → Progress (List ℕ)) → List (List ℕ) → Progress (List ℕ)
+command_then command failed next [] = Wants command
+command_then command failed next (answer ∷ answers) = (if goes_on answer then next answers else Done failed answers)
 
 -- the commands from the one of this number on; one whose bytes are no command is not sent, and failed
 unfoldable pub ran : List ℕ → ℕ → List (List ℕ) → List (List ℕ) → Progress (List ℕ)
 ran identifier number [] answers = Done (all_went_on identifier) answers
 ran identifier number (command ∷ commands) answers =
-    if is_some (command_of command) then exchanged command (failed_at identifier number) (ran identifier (number + 1) commands) answers
+    if is_some (command_of command) then command_then command (failed_at identifier number) (ran identifier (number + 1) commands) answers
     else Done (failed_at identifier number) answers
 
-abbrev pub script_ran : Option ScriptData → List (List ℕ) → Progress (List ℕ)
+abbrev pub script_ran : Option ReadScript → List (List ℕ) → Progress (List ℕ)
 script_ran None answers = Done no_script answers
 script_ran (Some script) answers = ran script.identifier 1 script.commands answers
 
@@ -55,5 +55,5 @@ pub record RunningData : Type 0 where
   pub commands : List (List ℕ)
 
 -- what it makes of the answers to come
-abbrev pub rest_of : RunningData → List (List ℕ) → Progress (List ℕ)
-rest_of running answers = ran running.identifier running.number running.commands answers
+abbrev pub running_rest : RunningData → List (List ℕ) → Progress (List ℕ)
+running_rest running answers = ran running.identifier running.number running.commands answers

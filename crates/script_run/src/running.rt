@@ -3,8 +3,8 @@ ghost use Rattle.std.specs.Prelude.{◌≡◌, ◌≤◌, ◌<◌, ◌+◌, ◌-
 ghost use Rattle.apdu_core.specs.Command.{command_of};
 ghost use Rattle.ber_tlv.specs.Left.{items_of};
 ghost use Rattle.emv_dict.specs.Progress.{Progress, Wants, Done, Leads};
-ghost use Rattle.script_run.specs.Ran.{all_went_on, failed_at, goes_on, ran, rest_of, template_ran};
-ghost use Rattle.script_run.specs.Leading.{RunNextLeads, left_next, AsksNumber};
+ghost use Rattle.script_run.specs.Ran.{all_went_on, failed_at, goes_on, ran, running_rest, template_ran};
+ghost use Rattle.script_run.specs.Leading.{RunNextLeads, commands_left_next, AsksNumber};
 ghost use Rattle.script_run.specs.Ran as spec;
 ghost use Rattle.script_run.specs.Script.{commands_of};
 
@@ -47,9 +47,9 @@ impl Model for Running {
 
     ghost view = { λ running. record { identifier = running.identifier; number = running.before + 1; commands = drop running.before (commands_of running.template.items) } };
 
-    ghost use Rattle.script_run.specs.Asked.{IsAsked};
+    ghost use Rattle.script_run.specs.Asked.{IsCommandAsked};
 
-    ghost invariant = { λ running. IsAsked running.template.items running.before };
+    ghost invariant = { λ running. IsCommandAsked running.template.items running.before };
 }
 
 /// How a script goes on.
@@ -69,7 +69,7 @@ impl Running {
         requires { length template.now ≤ 1024 }
         ensures leads { RunNextLeads (template_ran template.now) [] result }
         ensures number { AsksNumber 1 result }
-        ensures few { 2 * left_next result ≤ length template.now }
+        ensures few { 2 * commands_left_next result ≤ length template.now }
     {
         let Some(identifier) = read_identifier(template) else {
             return RunNext::Done(NO_SCRIPT);
@@ -82,7 +82,7 @@ impl Running {
     /// Writes the command that the card is to answer, in place of what `out` held.
     pub fn ask(&self, out: &mut Out)
         ensures wants { (whole : List (List ℕ) → Progress (List ℕ)) (answers : List (List ℕ))
-            → Leads whole answers (rest_of self.now) → whole answers ≡ Wants out.new.items }
+            → Leads whole answers (running_rest self.now) → whole answers ≡ Wants out.new.items }
     {
         let Some(command) = asked(&self.template, self.before) else {
             unreachable!();
@@ -93,10 +93,10 @@ impl Running {
     /// Goes on with the card's answer.
     pub fn take(self, reply: &[u8]) -> RunNext
         ensures leads { (whole : List (List ℕ) → Progress (List ℕ)) (answers : List (List ℕ))
-            → Leads whole answers (rest_of self) → RunNextLeads whole (answers ++ reply.now ∷ []) result }
+            → Leads whole answers (running_rest self) → RunNextLeads whole (answers ++ reply.now ∷ []) result }
         ensures number { AsksNumber (self.number + 1) result }
         // Fewer commands are left.
-        ensures nearer { left_next result < length self.commands }
+        ensures nearer { commands_left_next result < length self.commands }
     {
         let Running {
             template,
@@ -113,7 +113,7 @@ impl Running {
     /// The result where the card is gone: the command that it was asked failed, as if the answer had no bytes.
     pub fn gone(self) -> [u8; 5]
         ensures leads { (whole : List (List ℕ) → Progress (List ℕ)) (answers : List (List ℕ))
-            → Leads whole answers (rest_of self) → Leads whole (answers ++ [] ∷ []) (Done result) }
+            → Leads whole answers (running_rest self) → Leads whole (answers ++ [] ∷ []) (Done result) }
         ensures failed { result ≡ spec.failed_at self.identifier self.number }
     {
         failed_at(self.identifier, self.before + 1)
@@ -127,7 +127,7 @@ fn go_on(template: ArrayVec<u8, 1024>, identifier: [u8; 4], before: usize) -> Ru
     ensures leads { (whole : List (List ℕ) → Progress (List ℕ)) (answers : List (List ℕ))
         → Leads whole answers (ran identifier (before + 1) (drop before (commands_of template.items))) → RunNextLeads whole answers result }
     ensures number { AsksNumber (before + 1) result }
-    ensures left { left_next result ≤ length (drop before (commands_of template.items)) }
+    ensures left { commands_left_next result ≤ length (drop before (commands_of template.items)) }
 {
     let Some(command) = asked(&template, before) else {
         return RunNext::Done(all_went_on(identifier));

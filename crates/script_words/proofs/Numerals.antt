@@ -6,7 +6,7 @@ use Rattle.std.specs.Str.Parse.{digits_value}
 use Rattle.std.proofs.Common.{rules}
 use Rattle.std.proofs.lemmas.Bool.Decides.{nat_tests}
 use Rattle.std.proofs.lemmas.Str.Parse.{IsNumeralModel, numerals_by_fold}
-use Rattle.script_words.specs.Numeral.{limited, number_of}
+use Rattle.script_words.specs.Numeral.{limited, number_up_to}
 
 -- the number that the characters write behind `number`
 abbrev pub value_behind : ℕ → List ℕ → ℕ
@@ -68,5 +68,5 @@ on_value most cs true digits = ap (limited most) (own.same cs (own.to cs digits)
 on_value most cs false digits = refl
 
 -- read digit by digit, a text gives its number
-pub read_on_is : (most : ℕ) (cs : List ℕ) → read_on most 0 cs ≡ number_of most cs
+pub read_on_is : (most : ℕ) (cs : List ℕ) → read_on most 0 cs ≡ number_up_to most cs
 read_on_is most cs = read_on_is_whole most 0 cs (omega arith) ∙ on_value most cs (all_ascii_digits cs) refl

@@ -14,9 +14,9 @@ use Rattle.emv_dict.specs.Digits.{HasPinLength}
 use Rattle.script_words.specs.declared.script.Word.{Word}
 use Rattle.script_words.specs.declared.script.Word.TheVariants.{Block, Unblock, CardBlock, PinUnblock, Pin, Count, Amount}
 use Rattle.script_words.specs.declared.script.Ordered.{Ordered}
-use Rattle.script_words.specs.Numeral.{pin_of, numeral_of}
-use Rattle.script_words.specs.Order.{behind, before, either, pin_word, count_word, amount_word, with_argument, word_of, ordered, by_end, order_of}
-use Rattle.script_words.specs.Spelling.{IsWord, word_text, marked, order_text}
+use Rattle.script_words.specs.Numeral.{pin_in_text, numeral_of}
+use Rattle.script_words.specs.OrderWords.{behind, before, either, pin_word, count_word, amount_word, word_with_argument, word_of, ordered, by_end, order_of}
+use Rattle.script_words.specs.Spelling.{IsWord, word_text, marked_bad, order_text}
 use Rattle.script_words.proofs.Texts.{numeral_spelled, numeral_known, numeral_proper, pin_spelled, pin_known, pin_proper, all_digits}
 
 -- what stands behind a front
@@ -64,7 +64,7 @@ mapped make (Some x) text is = is
 mapped make None text is = tt
 
 pin_word_spelled : (rest : List ℕ) → IfSome (pin_word rest) (λ o. word_text o ≡ codes "pin " ++ rest)
-pin_word_spelled rest = mapped Pin (pin_of rest) _ (IfSome_then (pin_of rest) (pin_spelled rest) (λ ds is. ap (λ (xs : List ℕ). codes "pin " ++ xs) is))
+pin_word_spelled rest = mapped Pin (pin_in_text rest) _ (IfSome_then (pin_in_text rest) (pin_spelled rest) (λ ds is. ap (λ (xs : List ℕ). codes "pin " ++ xs) is))
 
 count_word_spelled : (rest : List ℕ) → IfSome (count_word rest) (λ o. word_text o ≡ codes "count " ++ rest)
 count_word_spelled rest =
@@ -76,8 +76,8 @@ amount_word_spelled rest =
     mapped Amount (numeral_of 999999999999 rest) _
     (IfSome_then (numeral_of 999999999999 rest) (numeral_spelled 999999999999 rest (omega arith)) (λ n is. ap (λ (xs : List ℕ). codes "amount " ++ xs) is))
 
-with_argument_spelled : (text : List ℕ) → IfSome (with_argument text) (λ o. word_text o ≡ text)
-unfolding with_argument
+with_argument_spelled : (text : List ℕ) → IfSome (word_with_argument text) (λ o. word_text o ≡ text)
+unfolding word_with_argument
 with_argument_spelled text =
     argument text (codes "pin ") (behind (codes "pin ") text) pin_word _ (behind_spelled (codes "pin ") text) pin_word_spelled
     (argument text (codes "count ") (behind (codes "count ") text) count_word _ (behind_spelled (codes "count ") text) count_word_spelled
@@ -92,9 +92,9 @@ word_spelled text =
     (constant text (codes "pin_unblock") PinUnblock _ _ refl refl
     (with_argument_spelled text))))
 
-ordered_spelled : (bad : Bool) (front text : List ℕ) (found : Option Word) → IfSome found (λ o. word_text o ≡ front) → marked bad front ≡ text
+ordered_spelled : (bad : Bool) (front text : List ℕ) (found : Option Word) → IfSome found (λ o. word_text o ≡ front) → marked_bad bad front ≡ text
     → IfSome (ordered bad found) (λ o. order_text o ≡ text)
-ordered_spelled bad front text (Some w) is whole = ap (marked bad) is ∙ whole
+ordered_spelled bad front text (Some w) is whole = ap (marked_bad bad) is ∙ whole
 ordered_spelled bad front text None is whole = tt
 
 by_end_spelled : (text : List ℕ) (found : Option (List ℕ)) → IfSome found (λ front. front ++ codes " bad" ≡ text) → IfSome (by_end found text) (λ o. order_text o ≡ text)
@@ -108,7 +108,7 @@ order_spelled text = by_end_spelled text (before (codes " bad") text) (before_sp
 
 -- the word of a text is read
 word_known : (w : Word) → IsWord w → word_of (word_text w) ≡ Some w
-unfolding word_of with_argument behind
+unfolding word_of word_with_argument behind
 word_known Block is = refl
 word_known Unblock is = refl
 word_known CardBlock is = refl
@@ -164,7 +164,7 @@ word_unmarked (Pin ds) is = unmarked (codes "pin ") (map (λ d. d + 48) ds) (pin
 word_unmarked (Count n) is = let numeral = decimal_is_IsNumeral n (omega arith) in unmarked (codes "count ") (decimal n) numeral.0.0 numeral.0.1
 word_unmarked (Amount n) is = let numeral = decimal_is_IsNumeral n (omega arith) in unmarked (codes "amount ") (decimal n) numeral.0.0 numeral.0.1
 
-order_known_by : (w : Word) (bad : Bool) → IsWord w → by_end (before (codes " bad") (marked bad (word_text w))) (marked bad (word_text w)) ≡ Some (record { word = w; bad = bad })
+order_known_by : (w : Word) (bad : Bool) → IsWord w → by_end (before (codes " bad") (marked_bad bad (word_text w))) (marked_bad bad (word_text w)) ≡ Some (record { word = w; bad = bad })
 order_known_by w true is = rw (taken_off (word_text w) (codes " bad"), word_known w is) refl
 order_known_by w false is = rw (word_unmarked w is, word_known w is) refl
 
@@ -187,12 +187,12 @@ mapped_proper : {A : Type 0} (make : A → Word) (found : Option A) → IfSome f
 mapped_proper make (Some x) is = is
 mapped_proper make None is = tt
 
-with_argument_proper : (text : List ℕ) → IfSome (with_argument text) IsWord
-unfolding with_argument
+with_argument_proper : (text : List ℕ) → IfSome (word_with_argument text) IsWord
+unfolding word_with_argument
 with_argument_proper text =
     let amounts : Option Word = either (behind (codes "amount ") text) amount_word None in
     let counts : Option Word = either (behind (codes "count ") text) count_word amounts in
-    argument_proper (behind (codes "pin ") text) pin_word counts (λ rest. mapped_proper Pin (pin_of rest) (pin_proper rest))
+    argument_proper (behind (codes "pin ") text) pin_word counts (λ rest. mapped_proper Pin (pin_in_text rest) (pin_proper rest))
     (argument_proper (behind (codes "count ") text) count_word amounts (λ rest. mapped_proper Count (numeral_of 255 rest) (numeral_proper 255 rest))
     (argument_proper (behind (codes "amount ") text) amount_word None
     (λ rest. mapped_proper Amount (numeral_of 999999999999 rest) (numeral_proper 999999999999 rest)) tt))
@@ -201,13 +201,13 @@ word_proper : (text : List ℕ) → IfSome (word_of text) IsWord
 unfolding word_of
 word_proper text =
     let is_it : List ℕ → Bool = bytes_eq text in
-    let fourth : Option Word = cond (is_it (codes "pin_unblock")) (Some PinUnblock) (with_argument text) in
+    let fourth : Option Word = cond (is_it (codes "pin_unblock")) (Some PinUnblock) (word_with_argument text) in
     let third : Option Word = cond (is_it (codes "card_block")) (Some CardBlock) fourth in
     let second : Option Word = cond (is_it (codes "unblock")) (Some Unblock) third in
     constant_proper Block (is_it (codes "block")) second tt
     (constant_proper Unblock (is_it (codes "unblock")) third tt
     (constant_proper CardBlock (is_it (codes "card_block")) fourth tt
-    (constant_proper PinUnblock (is_it (codes "pin_unblock")) (with_argument text) tt (with_argument_proper text))))
+    (constant_proper PinUnblock (is_it (codes "pin_unblock")) (word_with_argument text) tt (with_argument_proper text))))
 
 ordered_proper : (bad : Bool) (found : Option Word) → IfSome found IsWord → IfSome (ordered bad found) (λ o. IsWord o.word)
 ordered_proper bad (Some w) is = is

@@ -9,7 +9,7 @@ use Rattle.std.proofs.lemmas.List.{length-map}
 use Rattle.std.proofs.lemmas.List.Elements.{All-cons}
 use Rattle.std.proofs.lemmas.Fmt.{decimal_digit, decimal-digits_value, digits_decimal, decimal_is_IsNumeral, first_decimal}
 use Rattle.emv_dict.specs.Digits.{AllDecimal, HasPinLength, is_pin_length}
-use Rattle.script_words.specs.Numeral.{is_shortest, digit_before, digits_of, pin_of, numeral_of}
+use Rattle.script_words.specs.Numeral.{is_shortest, digit_before, digit_values, pin_in_text, numeral_of}
 use Rattle.script_words.proofs.Numerals.{own, value_behind}
 
 small_limit : (n most : ℕ) → n ≤ most → most ≤ 999999999999 → n < 2 ^ 64
@@ -82,32 +82,32 @@ one_more c cs true (Some ds) digit rest =
 one_more c cs true None digit rest = tt
 one_more c cs false read other rest = tt
 
-digits_spelled : (text : List ℕ) → IfSome (digits_of text) (λ ds. map (λ d. d + 48) ds ≡ text)
+digits_spelled : (text : List ℕ) → IfSome (digit_values text) (λ ds. map (λ d. d + 48) ds ≡ text)
 digits_spelled [] = refl
-digits_spelled (c ∷ cs) = one_more c cs (is_ascii_digit c) (digits_of cs) refl (digits_spelled cs)
+digits_spelled (c ∷ cs) = one_more c cs (is_ascii_digit c) (digit_values cs) refl (digits_spelled cs)
 
 only_if : (p : Bool) (read : Option (List ℕ)) (P : List ℕ → Type 0) → IfSome read P → IfSome (cond p read None) P
 only_if true read P holds = holds
 only_if false read P holds = tt
 
-pub pin_spelled : (text : List ℕ) → IfSome (pin_of text) (λ ds. map (λ d. d + 48) ds ≡ text)
-unfolding pin_of
-pin_spelled text = only_if _ (digits_of text) (λ ds. map (λ d. d + 48) ds ≡ text) (digits_spelled text)
+pub pin_spelled : (text : List ℕ) → IfSome (pin_in_text text) (λ ds. map (λ d. d + 48) ds ≡ text)
+unfolding pin_in_text
+pin_spelled text = only_if _ (digit_values text) (λ ds. map (λ d. d + 48) ds ≡ text) (digits_spelled text)
 
 -- digits that are written so are read
 digit_text : (d : ℕ) → d ≤ 9 → is_ascii_digit (d + 48) ≡ true
 digit_text d small = grind (arith, nat_tests)
 
-digits_known : (ds : List ℕ) → AllDecimal ds → digits_of (map (λ d. d + 48) ds) ≡ Some ds
+digits_known : (ds : List ℕ) → AllDecimal ds → digit_values (map (λ d. d + 48) ds) ≡ Some ds
 digits_known [] small = refl
 digits_known (d ∷ ds) small =
     let digit : is_ascii_digit (d + 48) ≡ true = digit_text d (small 0 0 (omega arith)) in
-    let rest : digits_of (map (λ d. d + 48) ds) ≡ Some ds = digits_known ds (λ k e within. small (suc k) e (omega arith)) in
+    let rest : digit_values (map (λ d. d + 48) ds) ≡ Some ds = digits_known ds (λ k e within. small (suc k) e (omega arith)) in
     let back : d + 48 - 48 ≡ d = omega arith in
     rw (digit, rest, back) refl
 
-pub pin_known : (ds : List ℕ) → HasPinLength ds → AllDecimal ds → pin_of (map (λ d. d + 48) ds) ≡ Some ds
-unfolding pin_of
+pub pin_known : (ds : List ℕ) → HasPinLength ds → AllDecimal ds → pin_in_text (map (λ d. d + 48) ds) ≡ Some ds
+unfolding pin_in_text
 pin_known ds sized small = rw (length-map ds (λ d. d + 48), sized) (digits_known ds small)
 
 pub all_digits : (ds : List ℕ) → AllDecimal ds → AllDigits 10 (map (λ d. d + 48) ds)
@@ -128,9 +128,9 @@ one_more_decimal c true (Some ds) digit rest = All-cons (λ d. d ≤ 9) (c - 48)
 one_more_decimal c true None digit rest = tt
 one_more_decimal c false read other rest = tt
 
-digits_decimal_read : (text : List ℕ) → IfSome (digits_of text) AllDecimal
+digits_decimal_read : (text : List ℕ) → IfSome (digit_values text) AllDecimal
 digits_decimal_read [] = λ k d within. absurd (omega arith)
-digits_decimal_read (c ∷ cs) = one_more_decimal c (is_ascii_digit c) (digits_of cs) refl (digits_decimal_read cs)
+digits_decimal_read (c ∷ cs) = one_more_decimal c (is_ascii_digit c) (digit_values cs) refl (digits_decimal_read cs)
 
 sized_by : (text : List ℕ) (p : Bool) (read : Option (List ℕ)) → is_pin_length (length text) ≡ p → IfSome read AllDecimal → IfSome read (λ ds. map (λ d. d + 48) ds ≡ text)
     → IfSome (cond p read None) (λ ds. HasPinLength ds × AllDecimal ds)
@@ -140,9 +140,9 @@ sized_by text true (Some ds) sized decimal same =
 sized_by text true None sized decimal same = tt
 sized_by text false read other decimal same = tt
 
-pub pin_proper : (text : List ℕ) → IfSome (pin_of text) (λ ds. HasPinLength ds × AllDecimal ds)
-unfolding pin_of
-pin_proper text = sized_by text _ (digits_of text) refl (digits_decimal_read text) (digits_spelled text)
+pub pin_proper : (text : List ℕ) → IfSome (pin_in_text text) (λ ds. HasPinLength ds × AllDecimal ds)
+unfolding pin_in_text
+pin_proper text = sized_by text _ (digit_values text) refl (digits_decimal_read text) (digits_spelled text)
 
 within_by : (most n : ℕ) (p q r : Bool) → nat_le n most ≡ r → IfSome (cond p (cond q (cond r (Some n) None) None) None) (λ m. m ≤ most)
 within_by most n true true true below = grind (arith, nat_tests)

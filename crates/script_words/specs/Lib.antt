@@ -1,5 +1,5 @@
 pub mod MadeLength
 pub mod Numeral
-pub mod Order
+pub mod OrderWords
 pub mod Script
 pub mod Spelling

@@ -11,13 +11,13 @@ abbrev pub digit_before : ℕ → Option (List ℕ) → Option (List ℕ)
 digit_before digit digits = option_map (λ ds. digit ∷ ds) digits
 
 -- the digits of a text of digits alone, each as a number
-abbrev pub digits_of : List ℕ → Option (List ℕ)
-digits_of [] = Some []
-digits_of (c ∷ cs) = (if is_ascii_digit c then digit_before (c - 48) (digits_of cs) else None)
+abbrev pub digit_values : List ℕ → Option (List ℕ)
+digit_values [] = Some []
+digit_values (c ∷ cs) = (if is_ascii_digit c then digit_before (c - 48) (digit_values cs) else None)
 
 -- the digits of a PIN, as many as one has
-unfoldable pub pin_of : List ℕ → Option (List ℕ)
-pin_of text = (if is_pin_length (length text) then digits_of text else None)
+unfoldable pub pin_in_text : List ℕ → Option (List ℕ)
+pin_in_text text = (if is_pin_length (length text) then digit_values text else None)
 
 -- one character at least, and more only where the first is not `0`
 abbrev pub is_shortest : List ℕ → Bool
@@ -30,9 +30,9 @@ abbrev pub limited : ℕ → ℕ → Option ℕ
 limited most number = (if nat_le number most then Some number else None)
 
 -- the number that a text of digits alone writes, up to the limit
-abbrev pub number_of : ℕ → List ℕ → Option ℕ
-number_of most text = (if all_ascii_digits text then limited most (digits_value 10 text) else None)
+abbrev pub number_up_to : ℕ → List ℕ → Option ℕ
+number_up_to most text = (if all_ascii_digits text then limited most (digits_value 10 text) else None)
 
 -- the number that a text writes in decimal without leading zeros, up to the limit
 unfoldable pub numeral_of : ℕ → List ℕ → Option ℕ
-numeral_of most text = (if is_shortest text then number_of most text else None)
+numeral_of most text = (if is_shortest text then number_up_to most text else None)

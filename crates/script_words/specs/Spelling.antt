@@ -27,9 +27,9 @@ word_text (Count limit) = codes "count " ++ decimal limit
 word_text (Amount limit) = codes "amount " ++ decimal limit
 
 -- ` bad` stands behind a command whose code is made wrong
-abbrev pub marked : Bool → List ℕ → List ℕ
-marked true text = text ++ codes " bad"
-marked false text = text
+abbrev pub marked_bad : Bool → List ℕ → List ℕ
+marked_bad true text = text ++ codes " bad"
+marked_bad false text = text
 
 abbrev pub order_text : Ordered → List ℕ
-order_text order = marked order.bad (word_text order.word)
+order_text order = marked_bad order.bad (word_text order.word)

@@ -1,14 +1,14 @@
 //! Decimal digits as characters.
 ghost use Rattle.std.specs.Prelude.{◌≡◌, ◌≤◌, IfSome};
-ghost use Rattle.script_words.specs.Numeral.{is_shortest as is_shortest_spec, pin_of, number_of, numeral_of};
+ghost use Rattle.script_words.specs.Numeral.{is_shortest as is_shortest_spec, pin_in_text, number_up_to, numeral_of};
 
 use emv_dict::Digits;
 
 /// The PIN of 4 to 12 decimal digits that a text of ASCII writes (ISO 9564-1); `None` for any other
 /// text.
-#[tactic(auto, unfolding(crate::specs::Numeral::pin_of))]
+#[tactic(auto, unfolding(crate::specs::Numeral::pin_in_text))]
 pub fn read_pin(text: &[u8]) -> Option<Digits>
-    ensures { result ≡ pin_of text.now }
+    ensures { result ≡ pin_in_text text.now }
 {
     if text.len() < 4 || text.len() > 12 {
         return None;
@@ -53,7 +53,7 @@ fn is_shortest(text: &[u8]) -> bool
 #[tactic(auto, using(crate::proofs::Numerals::read_on_is))]
 fn read_number(text: &[u8], most: u64) -> Option<u64>
     requires { most ≤ 999999999999 }
-    ensures exact { result ≡ number_of most text.now }
+    ensures exact { result ≡ number_up_to most text.now }
     ensures within { IfSome result (λ n. n ≤ most) }
 {
     let mut number = 0;

@@ -2,7 +2,7 @@
 ghost use Rattle.std.specs.Prelude.{◌≡◌, codes, Some, IfSome};
 ghost use Rattle.std.specs.Option.{option_map};
 ghost use Rattle.std.specs.Str.{bytes_eq};
-ghost use Rattle.script_words.specs.Order.{behind as behind_spec, before as before_spec, pin_word as pin_spec, count_word as count_spec, amount_word as amount_spec, with_argument, word_of, order_of};
+ghost use Rattle.script_words.specs.OrderWords.{behind as behind_spec, before as before_spec, pin_word as pin_spec, count_word as count_spec, amount_word as amount_spec, word_with_argument, word_of, order_of};
 ghost use Rattle.script_words.specs.Spelling.{IsWord, order_text};
 ghost use Rattle.script_words.specs.declared.script.Ordered.{Ordered as Order};
 
@@ -23,7 +23,7 @@ pub fn read_order(text: &[u8]) -> Option<Ordered>
     ordered(text)
 }
 
-#[tactic(auto, unfolding(crate::specs::Order::order_of))]
+#[tactic(auto, unfolding(crate::specs::OrderWords::order_of))]
 fn ordered(text: &[u8]) -> Option<Ordered>
     ensures { result ≡ order_of text.now }
 {
@@ -39,7 +39,7 @@ fn ordered(text: &[u8]) -> Option<Ordered>
     }
 }
 
-#[tactic(auto, unfolding(crate::specs::Order::word_of))]
+#[tactic(auto, unfolding(crate::specs::OrderWords::word_of))]
 fn read_word(text: &[u8]) -> Option<Word>
     ensures { result ≡ word_of text.now }
 {
@@ -56,9 +56,9 @@ fn read_word(text: &[u8]) -> Option<Word>
     }
 }
 
-#[tactic(auto, unfolding(crate::specs::Order::with_argument))]
+#[tactic(auto, unfolding(crate::specs::OrderWords::word_with_argument))]
 fn read_with_argument(text: &[u8]) -> Option<Word>
-    ensures { result ≡ with_argument text.now }
+    ensures { result ≡ word_with_argument text.now }
 {
     if let Some(digits) = behind(text, "pin ") {
         return pin_word(digits);
@@ -97,7 +97,7 @@ fn is_word(text: &[u8], word: &str) -> bool
 }
 
 /// What stands behind this front, where the text begins with it.
-#[tactic(auto, unfolding(crate::specs::Order::behind))]
+#[tactic(auto, unfolding(crate::specs::OrderWords::behind))]
 fn behind<'a>(text: &'a [u8], front: &str) -> Option<&'a [u8]>
     ensures { option_map (λ rest. rest.now) result ≡ behind_spec front.now text.now }
 {
@@ -105,7 +105,7 @@ fn behind<'a>(text: &'a [u8], front: &str) -> Option<&'a [u8]>
 }
 
 /// What stands before this end, where the text ends with it.
-#[tactic(auto, unfolding(crate::specs::Order::before))]
+#[tactic(auto, unfolding(crate::specs::OrderWords::before))]
 fn before<'a>(text: &'a [u8], end: &str) -> Option<&'a [u8]>
     ensures { option_map (λ rest. rest.now) result ≡ before_spec end.now text.now }
 {

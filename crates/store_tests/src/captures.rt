@@ -2,11 +2,11 @@
 ghost use Rattle.std.specs.Prelude.{◌≡◌, ◌<◌, ◌≤◌, ◌++◌, ◌∷◌, [], true, false, None, Some, length, IsTrue};
 ghost use Rattle.emv_ports.specs.Cut.{is_place};
 ghost use Rattle.capture_store.specs.Calls.{Adds};
-ghost use Rattle.capture_store.specs.SeenShelf.{ShelfOn, IsShelfOff, is_on};
-ghost use Rattle.capture_store.specs.Spelling.{IsMessage};
-ghost use Rattle.capture_store.specs.StoreRow.{StoreRow, call_by};
+ghost use Rattle.capture_store.specs.SeenLaneStore.{LaneStoreOn, IsLaneStoreOff, has_power};
+ghost use Rattle.capture_store.specs.Spelling.{IsCaptureMessage};
+ghost use Rattle.capture_store.specs.StoreRow.{StoreRow, call_under_plan};
 
-use capture_store::{Captures, Shelf, Waiting, prepare};
+use capture_store::{Captures, LaneStore, Waiting, prepare};
 use emv_ports::{Gone, MemoryPages, Pages, RoughPages, Tear, TearAt};
 use std::alloc::AllocError;
 use std::process::Abort;
@@ -43,7 +43,7 @@ fn with_one(
     captures: Captures<MemoryPages>,
     message: &[u8],
 ) -> Captures<MemoryPages>
-    requires { IsMessage message.now }
+    requires { IsCaptureMessage message.now }
 {
     assert!(rt; captures.count() < 7);
     match captures.add(message) {
@@ -113,53 +113,53 @@ const DROPS: Change = Change {
 };
 
 /// Adds a message under no plan.
-fn put<P: Pages>(rt: &impl Abort, shelf: &mut Shelf<P>, message: &[u8])
-    requires on { is_on shelf.old ≡ true }
-    requires message { IsMessage message.now }
-    ensures on { is_on shelf.new ≡ true }
-    ensures made { (row : StoreRow) → ShelfOn shelf.old row None
-        → ShelfOn shelf.new (call_by None row (Adds message.now)) None }
+fn put<P: Pages>(rt: &impl Abort, lane_store: &mut LaneStore<P>, message: &[u8])
+    requires on { has_power lane_store.old ≡ true }
+    requires message { IsCaptureMessage message.now }
+    ensures on { has_power lane_store.new ≡ true }
+    ensures made { (row : StoreRow) → LaneStoreOn lane_store.old row None
+        → LaneStoreOn lane_store.new (call_under_plan None row (Adds message.now)) None }
 {
-    assert!(rt; shelf.count() < 7);
-    match shelf.add(message) {
+    assert!(rt; lane_store.count() < 7);
+    match lane_store.add(message) {
         Ok(()) => {}
         Err(Gone) => panic!(rt; "no tear is planned"),
     }
 }
 
 /// A store of two messages, off.
-fn filled<P: Pages>(rt: &impl Abort, pages: P) -> Shelf<P>
+fn filled<P: Pages>(rt: &impl Abort, pages: P) -> LaneStore<P>
     requires off { (P.memory pages).on ≡ false }
     requires plan { (P.memory pages).plan ≡ None }
-    ensures { IsShelfOff result }
+    ensures { IsLaneStoreOff result }
 {
-    let mut shelf = Shelf::new(pages);
-    match shelf.open(None) {
+    let mut lane_store = LaneStore::new(pages);
+    match lane_store.open(None) {
         Ok(()) => {}
         Err(Gone) => panic!(rt; "no tear is planned"),
     }
-    put(rt, &mut shelf, &FIRST);
-    put(rt, &mut shelf, &SECOND);
-    shelf.power_off();
-    shelf
+    put(rt, &mut lane_store, &FIRST);
+    put(rt, &mut lane_store, &SECOND);
+    lane_store.power_off();
+    lane_store
 }
 
 /// Opens it under a tear of the first commit, which cuts the call.
-fn cut<P: Pages>(rt: &impl Abort, shelf: &mut Shelf<P>, change: Change, at: TearAt)
-    requires off { IsShelfOff shelf.old }
+fn cut<P: Pages>(rt: &impl Abort, lane_store: &mut LaneStore<P>, change: Change, at: TearAt)
+    requires off { IsLaneStoreOff lane_store.old }
     requires tear { IsTrue (is_place at) }
-    ensures { IsShelfOff shelf.new }
+    ensures { IsLaneStoreOff lane_store.new }
 {
-    match shelf.open(Some(Tear { commit: 1, at })) {
+    match lane_store.open(Some(Tear { commit: 1, at })) {
         Ok(()) => {}
         Err(Gone) => panic!(rt; "the tear is planned for the first commit"),
     }
-    let count = shelf.count();
+    let count = lane_store.count();
     assert!(rt; count > 0 && count < 7);
     let called = if change.adds {
-        shelf.add(&THIRD)
+        lane_store.add(&THIRD)
     } else {
-        shelf.drop_first()
+        lane_store.drop_first()
     };
     match called {
         Ok(()) => panic!(rt; "the tear is planned for this commit"),
@@ -187,17 +187,17 @@ fn check<P: Pages>(rt: &impl Abort, pages: P, change: Change, at: TearAt)
     requires tear { IsTrue (is_place at) }
     requires pages { change.pages ≤ 4 }
 {
-    let mut shelf = filled(rt, pages);
-    cut(rt, &mut shelf, change, at);
-    match shelf.open(None) {
+    let mut lane_store = filled(rt, pages);
+    cut(rt, &mut lane_store, change, at);
+    match lane_store.open(None) {
         Ok(()) => {}
         Err(Gone) => panic!(rt; "no tear is planned"),
     }
-    let first = match shelf.first() {
+    let first = match lane_store.first() {
         Some([byte, ..]) => *byte,
         _ => panic!(rt; "no message"),
     };
-    let found = (shelf.count(), first);
+    let found = (lane_store.count(), first);
     let (before, behind) = may_be_found(change, at);
     let is_before = before && found == (2, 0x11);
     let is_behind = behind && found == (change.count, change.first);

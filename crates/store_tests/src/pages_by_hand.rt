@@ -1,7 +1,7 @@
 //! Pages that are written and read byte by byte, in the layout that docs/proof/formats.md gives them.
 ghost use Rattle.std.specs.Prelude.{◌≡◌, ◌<◌, ◌≤◌, ℕ, List, length, true, false};
-ghost use Rattle.emv_ports.specs.Memory.{IsBlank, written};
-ghost use Rattle.torn_store.specs.Layout.{filled, recover};
+ghost use Rattle.emv_ports.specs.Memory.{IsBlank, page_written};
+ghost use Rattle.torn_store.specs.Layout.{padded_page, recover};
 ghost use Rattle.torn_store.specs.Recovery.{Between};
 
 use crate::tears::{opened, place_of, torn_pages};
@@ -11,7 +11,7 @@ use std::process::Abort;
 /// A page that begins with these bytes, and has 00 behind them.
 fn page_of(front: &[u8]) -> [u8; 64]
     requires { length front.now ≤ 64 }
-    ensures { result ≡ filled front.now }
+    ensures { result ≡ padded_page front.now }
 {
     let mut bytes = [0; 64];
     bytes[..front.len()].copy_from_slice(front);
@@ -23,7 +23,7 @@ fn put<P: Pages>(rt: &impl Abort, pages: &mut P, page: u8, front: &[u8])
     requires on { (P.memory pages.old).on ≡ true }
     requires page { page < 64 }
     requires front { length front.now ≤ 64 }
-    ensures { P.memory pages.new ≡ written (P.memory pages.old) page (filled front.now) }
+    ensures { P.memory pages.new ≡ page_written (P.memory pages.old) page (padded_page front.now) }
 {
     match pages.write(page, &page_of(front)) {
         Ok(()) => {}

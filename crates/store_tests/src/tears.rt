@@ -8,7 +8,7 @@ ghost use Rattle.torn_store.specs.Recovery.{Among, Between};
 use arrayvec::ArrayVec;
 use emv_ports::{Gone, MemoryPages, Pages, Tear, TearAt};
 use std::process::Abort;
-use torn_store::{Convert, Lost, Place, Store};
+use torn_store::{Convert, Lost, Store, StorePlace};
 
 /// Commits and releases.
 fn settled<P: Pages>(store: Store<P>, new: &[u8]) -> Result<Store<P>, Lost<P>>
@@ -253,6 +253,7 @@ impl Convert for Longer {
         if old.len() != 2 {
             return false;
         }
+        out.clear();
         out.push(old[0]);
         out.push(old[1]);
         out.push(9);
@@ -330,7 +331,7 @@ fn a_format_turns_the_pages_on_once(rt: HostRuntime) {
     let Err(Gone) = pages.write(40, &[1; 64]) else {
         panic!(rt; "a tear is planned");
     };
-    let mut place = Place::new(pages);
+    let mut place = StorePlace::new(pages);
     place.format(&[1, 2]);
     assert!(rt; place.into_pages().read(40) == every_second());
 }

@@ -1,2 +1,3 @@
-pub mod Stuck
-pub mod Talking
+pub mod Entries
+pub mod Taking
+pub mod Tracing

@@ -5,29 +5,29 @@ use Rattle.toml.specs.Data.{Members}
 use Rattle.toml.specs.Parse.{parse_document}
 use Rattle.scenario_fields.specs.Fault.{◌>>=◌, Gives}
 use Rattle.scenario_fields.specs.Fields.{bytes_at, table_at, only}
-use Rattle.scenario_fields.specs.Place.{at_top}
+use Rattle.scenario_fields.specs.TablePaths.{at_top}
 use Rattle.scenario_fields.specs.declared.fault.ScenarioFault.{ScenarioFault}
 use Rattle.scenario_fields.specs.declared.fault.ScenarioFault.TheVariants.{Toml}
 use Rattle.scenario_lanes.specs.Lanes.{traced_lane}
 use Rattle.scenario_lanes.specs.Plan.{LaneData}
 
-unfoldable pub lane_keys : List (List ℕ)
-lane_keys = codes "pin_key" ∷ codes "lane" ∷ []
+unfoldable pub document_keys : List (List ℕ)
+document_keys = codes "pin_key" ∷ codes "lane" ∷ []
 
 -- the document of a trace without its entries
-unfoldable pub lane_of : Members → Result LaneData ScenarioFault
-lane_of ms = do
+unfoldable pub lane_in_document : Members → Result LaneData ScenarioFault
+lane_in_document ms = do
   pin_key ← bytes_at at_top (codes "pin_key") 16 16 ms
   table ← table_at at_top (codes "lane") ms
   lane ← traced_lane pin_key table
-  _ ← only at_top lane_keys ms
+  _ ← only at_top document_keys ms
   Ok lane
 
-abbrev pub of_document : Option Members → Result LaneData ScenarioFault
-of_document None = Err Toml
-of_document (Some ms) = lane_of ms
+abbrev pub lane_of_document : Option Members → Result LaneData ScenarioFault
+lane_of_document None = Err Toml
+lane_of_document (Some ms) = lane_in_document ms
 
 -- what the bytes give
-pub record IsReading (bytes : List ℕ) (result : Result LaneData ScenarioFault) : Type 0 where
-  pub text : IsUtf8 bytes → Gives (λ l. l) result (of_document (parse_document bytes))
+pub record ReadsTerminal (bytes : List ℕ) (result : Result LaneData ScenarioFault) : Type 0 where
+  pub text : IsUtf8 bytes → Gives (λ l. l) result (lane_of_document (parse_document bytes))
   pub other : (IsUtf8 bytes → ⊥) → Gives (λ l. l) result (Err Toml)

@@ -1,11 +1,11 @@
 //! What a terminal asks, as a line.
 ghost use Rattle.std.specs.Prelude.{◌≡◌, ◌≢◌, ◌≤◌, ◌++◌, ◌∷◌, [], false, List, length};
 ghost use Rattle.kernel.specs.Dialogue.{dialogue};
-ghost use Rattle.kernel.specs.Kernel.{KernelStands, deal_in, deed_next, next_of};
+ghost use Rattle.kernel.specs.Kernel.{KernelStands, outset_in, deed_next, kernel_next};
 ghost use Rattle.kernel.specs.Reply.{Reply};
 ghost use Rattle.kernel.specs.declared.kernel.Next.TheVariants as next;
 ghost use Rattle.trace_check.specs.Dialogues as traces;
-ghost use Rattle.trace_check.specs.Dialogues.{entry_at};
+ghost use Rattle.trace_check.specs.Dialogues.{entry_of_standing};
 ghost use Rattle.report_text.specs.Pieces.{hex_or_dash as hex_text};
 ghost use Rattle.trace_check.specs.declared.entry.Entry.TheVariants as entries;
 ghost use Rattle.terminal_at_reader.specs.Talk.{line_of};
@@ -27,12 +27,12 @@ fn write_end(end: EndRecord, out: &mut Text)
 
 /// The line of the end of a dialogue that is over.
 pub fn tell_end(kernel: &mut Kernel<'_>, out: &mut Text)
-    requires over { next_of kernel.old ≡ next.Ended }
+    requires over { kernel_next kernel.old ≡ next.Ended }
     requires fresh { kernel.old.is_spent ≡ false }
     ensures told { (replies : List Reply) → KernelStands kernel.old replies
-        → out.new.items ≡ line_of (entry_at (deal_in kernel.old) (dialogue (deal_in kernel.old) replies)) }
+        → out.new.items ≡ line_of (entry_of_standing (outset_in kernel.old) (dialogue (outset_in kernel.old) replies)) }
     ensures over { (replies : List Reply) → KernelStands kernel.old replies
-        → deed_next (dialogue (deal_in kernel.old) replies).deed ≡ next.Ended }
+        → deed_next (dialogue (outset_in kernel.old) replies).deed ≡ next.Ended }
 {
     let end = kernel.end(&mut Tally::new());
     write_end(end, out);
@@ -52,9 +52,9 @@ fn write_bytes(mark: &[u8], bytes: &[u8], out: &mut Text)
 
 /// The line of what a dialogue asks that is not over.
 pub fn tell_ask(kernel: &Kernel<'_>, out: &mut Text)
-    requires { next_of kernel.now ≢ next.Ended }
+    requires { kernel_next kernel.now ≢ next.Ended }
     ensures { (replies : List Reply) → KernelStands kernel.now replies
-        → out.new.items ≡ line_of (entry_at (deal_in kernel.now) (dialogue (deal_in kernel.now) replies)) }
+        → out.new.items ≡ line_of (entry_of_standing (outset_in kernel.now) (dialogue (outset_in kernel.now) replies)) }
 {
     match kernel.next() {
         Next::ToCard => write_bytes(b"> ", kernel.bytes(), out),

@@ -3,36 +3,36 @@ ghost use Rattle.std.specs.Prelude.{◌≡◌, length, IfOk};
 ghost use Rattle.toml.specs.View.{table_view};
 ghost use Rattle.scenario_fields.specs.Fault.{Gives};
 ghost use Rattle.scenario_fields.specs.Fields.{only};
-ghost use Rattle.scenario_fields.specs.Place.{path};
+ghost use Rattle.scenario_fields.specs.TablePaths.{path};
 ghost use Rattle.scenario_lanes.specs.Plan.{IsLane};
-ghost use Rattle.terminal_at_reader.specs.Document.{lane_keys, lane_of, IsReading};
+ghost use Rattle.terminal_at_reader.specs.Document.{document_keys, lane_in_document, ReadsTerminal};
 
-use scenario_fields::{Fields, LaneAt, Place, ScenarioFault};
+use scenario_fields::{Fields, LaneAt, ScenarioFault, TablePlace};
 use scenario_lanes::{Lane, read_lane};
 use std::alloc::Global;
 use toml::Table;
 
-#[tactic(auto, unfolding(crate::specs::Document::lane_keys))]
+#[tactic(auto, unfolding(crate::specs::Document::document_keys))]
 fn only_lane_keys(fields: &Fields) -> Result<(), ScenarioFault>
-    ensures { Gives (λ u. u) result (only (path fields.now.place) lane_keys (table_view fields.now.table.now)) }
+    ensures { Gives (λ u. u) result (only (path fields.now.place) document_keys (table_view fields.now.table.now)) }
 {
     fields.only(&["pin_key", "lane"])
 }
 
 /// The terminal of a document, with its one purchase.
-#[tactic(auto, unfolding(crate::specs::Document::lane_of))]
+#[tactic(auto, unfolding(crate::specs::Document::lane_in_document))]
 fn lane_in(alloc: Global, document: &Table) -> Result<Lane, ScenarioFault>
-    ensures exact { Gives (λ lane. lane) result (lane_of (table_view document.now)) }
+    ensures exact { Gives (λ lane. lane) result (lane_in_document (table_view document.now)) }
     ensures one { IfOk result (λ lane. length lane.purchases ≡ 1) }
     ensures rules { IfOk result IsLane }
 {
     let fields = Fields {
         alloc,
-        place: Place::Top,
+        place: TablePlace::Top,
         table: document,
     };
     let pin_key = fields.byte_array("pin_key")?;
-    let table = fields.inner("lane", Place::Lane(LaneAt::Only))?.table;
+    let table = fields.inner("lane", TablePlace::Lane(LaneAt::Only))?.table;
     let lane = read_lane(alloc, table, pin_key)?;
     only_lane_keys(&fields)?;
     Ok(lane)
@@ -41,7 +41,7 @@ fn lane_in(alloc: Global, document: &Table) -> Result<Lane, ScenarioFault>
 /// Reads a terminal with one purchase of its document's bytes, or gives the document's first fault: bytes that are no
 /// TOML document, then the keys `pin_key` and `lane` in this order, and any other.
 pub fn read_terminal(alloc: Global, bytes: &[u8]) -> Result<Lane, ScenarioFault>
-    ensures exact { IsReading bytes.now result }
+    ensures exact { ReadsTerminal bytes.now result }
     ensures one { IfOk result (λ lane. length lane.purchases ≡ 1) }
     ensures rules { IfOk result IsLane }
 {

@@ -4,7 +4,7 @@
 
 mod asking;
 mod document;
-mod talk;
+mod terminal;
 #[cfg(test)]
 mod tests;
 mod top;
@@ -18,5 +18,5 @@ use top::run;
 fn main(rt: HostRuntime) -> ExitCode {
     let mut source = StdinSource::new(rt.reader());
     let mut sink = StdoutSink::new(io::writer(&rt));
-    ExitCode::from(run(rt.alloc(), &mut source, &mut sink))
+    ExitCode::from(run(rt.alloc(), &mut source, &mut sink).code())
 }

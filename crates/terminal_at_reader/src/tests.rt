@@ -112,7 +112,7 @@ fn run_of(alloc: Global, text: &str, fails: (&[u32], &[u32])) -> Result<(u8, Vec
     let bytes = text.as_bytes().to_vec(alloc)?;
     let mut source = MemorySource::slow(bytes, fails.0.to_vec(alloc)?, 5);
     let mut sink = MemorySink::new(alloc, 10_000, fails.1.to_vec(alloc)?)?;
-    let status = run(alloc, &mut source, &mut sink);
+    let status = run(alloc, &mut source, &mut sink).code();
     Ok((status, sink.bytes().to_vec(alloc)?))
 }
 

@@ -4,7 +4,7 @@ use Rattle.std.specs.Prelude.{◌==◌, nat_lt, nat_le}
 use Rattle.std.specs.List.{AllByRecursion}
 use Rattle.std.proofs.lemmas.Bool.Decides.{nat_tests}
 use Rattle.std.proofs.lemmas.List.Sums.{sum_by-cons}
-use Rattle.env_map.specs.Entries.{Entries, value_of, with_entry, size_of_values}
+use Rattle.env_map.specs.Entries.{Entries, value_of, with_object, size_of_values}
 use Rattle.env_map.specs.Put.{put_of}
 
 -- each tag is above this one
@@ -17,7 +17,7 @@ absent_below tag (entry ∷ entries) above =
     let other : (entry.0 == tag) ≡ false = (let less = above.0 in grind (arith, nat_tests)) in
     rw other (absent_below tag entries above.1)
 
-put_below : (tag : ℕ) (value : List ℕ) (entries : Entries) → AllAbove tag entries → with_entry tag value entries ≡ (tag, value) ∷ entries
+put_below : (tag : ℕ) (value : List ℕ) (entries : Entries) → AllAbove tag entries → with_object tag value entries ≡ (tag, value) ∷ entries
 put_below tag value [] above = refl
 put_below tag value (entry ∷ entries) above =
     let under : nat_lt tag entry.0 ≡ true = (let less = above.0 in grind (arith, nat_tests)) in
@@ -49,7 +49,7 @@ absent_above tag (entry ∷ entries) below =
     let other : (entry.0 == tag) ≡ false = (let less = below.0 in grind (arith, nat_tests)) in
     rw other (absent_above tag entries below.1)
 
-put_above : (tag : ℕ) (value : List ℕ) (entries : Entries) → AllBelow tag entries → with_entry tag value entries ≡ entries ++ (tag, value) ∷ []
+put_above : (tag : ℕ) (value : List ℕ) (entries : Entries) → AllBelow tag entries → with_object tag value entries ≡ entries ++ (tag, value) ∷ []
 put_above tag value [] below = refl
 put_above tag value (entry ∷ entries) below =
     let over : nat_lt tag entry.0 ≡ false = (let less = below.0 in grind (arith, nat_tests)) in

@@ -1,4 +1,4 @@
-pub mod Marks
+pub mod StepResults
 pub mod Terminal
 pub mod Scripts
 pub mod Table

@@ -7,8 +7,8 @@ use Rattle.ber_tlv.specs.Left.{items_of}
 use Rattle.ber_tlv.specs.declared.item.TlvFault.{TlvFault}
 
 -- the values of the templates of this tag, in their order
-unfoldable pub templates : ℕ → List ℕ → List (List ℕ)
-templates tag scripts = values_of tag (items_of scripts)
+unfoldable pub templates_of_tag : ℕ → List ℕ → List (List ℕ)
+templates_of_tag tag scripts = values_of tag (items_of scripts)
 
 -- objects alone, at most 8
 pub record AreFew (scripts : List ℕ) : Type 0 where
@@ -16,14 +16,14 @@ pub record AreFew (scripts : List ℕ) : Type 0 where
   pub listed : items_of scripts ≡ Ok items
   pub few : length items ≤ 8
 
-abbrev pub are_few : Result (List ItemData) TlvFault → Bool
-are_few (Ok items) = nat_le (length items) 8
-are_few (Err fault) = false
+abbrev pub has_few_scripts : Result (List ItemData) TlvFault → Bool
+has_few_scripts (Ok items) = nat_le (length items) 8
+has_few_scripts (Err fault) = false
 
 -- at most 8 objects, as the scripts of each reply are
 abbrev pub sound_scripts : List ℕ → List ℕ
-sound_scripts scripts = (if are_few (items_of scripts) then scripts else [])
+sound_scripts scripts = (if has_few_scripts (items_of scripts) then scripts else [])
 
 -- a reply as it is kept for the steps behind it
-abbrev pub kept : ReplyData → ReplyData
-kept reply = record { code = reply.code; auth = reply.auth; scripts = sound_scripts reply.scripts }
+abbrev pub kept_host_reply : ReplyData → ReplyData
+kept_host_reply reply = record { code = reply.code; auth = reply.auth; scripts = sound_scripts reply.scripts }

@@ -2,16 +2,16 @@
 use Rattle.std.specs.Prelude.{[], ◌∷◌, None}
 use Rattle.auth_message.specs.Reply.{ReplyData}
 use Rattle.emv_dict.specs.Settings.{IsSettings, IsPurchase}
-use Rattle.terminal_state.specs.Terminal.{Deal}
+use Rattle.terminal_state.specs.Terminal.{Outset}
 use Rattle.terminal_state.specs.declared.table.Table.{Table}
 
-abbrev pub deal_of : Table → Deal
-deal_of t = record { settings = t.settings.now; purchase = t.purchase.now }
+abbrev pub outset_of : Table → Outset
+outset_of t = record { settings = t.settings.now; purchase = t.purchase.now }
 
 -- the settings and the purchase are within their ranges
-pub record IsDeal (deal : Deal) : Type 0 where
-  pub settings : IsSettings deal.settings
-  pub purchase : IsPurchase deal.purchase
+pub record IsOutset (outset : Outset) : Type 0 where
+  pub settings : IsSettings outset.settings
+  pub purchase : IsPurchase outset.purchase
 
 -- where the host has said nothing
 abbrev pub no_reply : ReplyData

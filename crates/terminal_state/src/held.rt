@@ -1,6 +1,6 @@
 //! The card's data in the place of a terminal.
 ghost use Rattle.std.specs.Prelude.{◌≡◌, None, Some, option_map};
-ghost use Rattle.object_lists.specs.CardRead.{card_of};
+ghost use Rattle.object_lists.specs.CardRead.{card_of_objects};
 ghost use Rattle.object_lists.specs.Forms.{HasForms};
 
 use env_map::Env;
@@ -49,7 +49,7 @@ impl HeldCard {
     /// Keeps what these objects make.
     pub fn keep(&mut self, objects: &Env)
         requires { HasForms objects.now }
-        ensures { self.new ≡ Some (card_of objects.now) }
+        ensures { self.new ≡ Some (card_of_objects objects.now) }
     {
         match &mut self.card {
             Some(card) => card.refill(objects),

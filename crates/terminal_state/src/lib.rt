@@ -4,11 +4,11 @@
 #![tactic(auto)]
 
 pub mod held;
-pub mod moment;
+pub mod state_so_far;
 pub mod table;
 pub mod terminal;
 
 pub use held::HeldCard;
-pub use moment::{IssuerData, Moment, OnlineRequest};
+pub use state_so_far::{IssuerData, OnlineRequest, StateSoFar};
 pub use table::{HostReply, Table};
 pub use terminal::put_terminal;

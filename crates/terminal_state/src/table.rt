@@ -1,16 +1,17 @@
 //! What lies on the terminal's table while a dialogue goes on: what was dealt, what is known, and the
 //! buffers that are lent to the steps.
 ghost use Rattle.std.specs.Prelude.{◌≡◌, []};
-ghost use Rattle.terminal_state.specs.Marks.{moment};
-ghost use Rattle.terminal_state.specs.Table.{deal_of, no_reply};
+ghost use Rattle.terminal_state.specs.StepResults.{state_so_far};
+ghost use Rattle.terminal_state.specs.Table.{outset_of, no_reply};
 
-use crate::moment::{IssuerData, Moment};
+use crate::state_so_far::{IssuerData, StateSoFar};
 use apdu_core::Out;
 use app_select::Candidates;
 use arrayvec::ArrayVec;
 use auth_message::Message;
 use emv_dict::{Purchase, Settings};
 use env_map::Env;
+use script_run::Running;
 use std::marker::Model;
 
 /// The host's reply, kept for the steps behind it.
@@ -43,8 +44,10 @@ pub struct Table<'s> {
     pub settings: &'s Settings,
     pub purchase: &'s Purchase,
     pub candidates: Candidates<'s>,
-    pub moment: Moment,
+    pub state_so_far: StateSoFar,
     pub reply: HostReply,
+    /// The issuer script that runs. It stands here and in no stage, which moves at each step.
+    pub running: Option<Running>,
     /// The card's objects while it is read, and then the terminal's for the card's object lists.
     pub objects: Env,
     pub command: Out,
@@ -54,9 +57,9 @@ pub struct Table<'s> {
 impl<'s> Table<'s> {
     /// The table for another dialogue. The command stays until the next one is asked.
     pub fn clear_for(&mut self, settings: &'s Settings, purchase: &'s Purchase)
-        ensures deal { deal_of self.new ≡ record { settings = settings.now; purchase = purchase.now } }
+        ensures outset { outset_of self.new ≡ record { settings = settings.now; purchase = purchase.now } }
         ensures candidates { self.new.candidates ≡ [] }
-        ensures moment { self.new.moment ≡ moment [] }
+        ensures state_so_far { self.new.state_so_far ≡ state_so_far [] }
         ensures reply { self.new.reply ≡ no_reply }
         ensures objects { self.new.objects ≡ [] }
         ensures message { self.new.message.items ≡ [] }
@@ -65,8 +68,9 @@ impl<'s> Table<'s> {
         self.settings = settings;
         self.purchase = purchase;
         self.candidates.clear();
-        self.moment = Moment::new();
+        self.state_so_far = StateSoFar::new();
         self.reply = HostReply::none();
+        self.running = None;
         self.objects.clear();
         self.message.clear();
     }

@@ -2,9 +2,9 @@
 ghost use Rattle.std.specs.Prelude.{◌≡◌, ◌≤◌, ◌<◌, [], ◌∷◌, ◌++◌, length, option_map};
 ghost use Rattle.std.specs.List.{AllByRecursion};
 ghost use Rattle.emv_dict.specs.Settings.{IsSettings, IsPurchase};
-ghost use Rattle.terminal_state.specs.Terminal.{terminal_objects, lasting_objects, if_there};
+ghost use Rattle.terminal_state.specs.Terminal.{terminal_objects, lasting_objects, object_if_there};
 
-use crate::moment::{IssuerData, Moment};
+use crate::state_so_far::{IssuerData, StateSoFar};
 use ber_tlv::Tag;
 use emv_dict::{AidRow, Purchase, Settings, amount_bytes, two_digits};
 use env_map::Env;
@@ -16,15 +16,15 @@ pub fn put_terminal(
     settings: &Settings,
     purchase: &Purchase,
     row: &AidRow,
-    moment: &Moment,
+    state_so_far: &StateSoFar,
 )
     requires settings { IsSettings settings.now }
     requires purchase { IsPurchase purchase.now }
-    ensures { env.new ≡ terminal_objects (record { settings = settings.now; purchase = purchase.now }) row.now moment.now }
+    ensures { env.new ≡ terminal_objects (record { settings = settings.now; purchase = purchase.now }) row.now state_so_far.now }
 {
-    put_lasting(env, settings, purchase, row, moment);
-    put_issuer_data(env, &moment.issuer_data);
-    if let Some(code) = &moment.code {
+    put_lasting(env, settings, purchase, row, state_so_far);
+    put_issuer_data(env, &state_so_far.issuer_data);
+    if let Some(code) = &state_so_far.code {
         add(env, Tag(0x8a), code);
     }
 }
@@ -35,7 +35,7 @@ fn put_issuer_data(env: &mut Env, value: &Option<IssuerData>)
     requires above_code { AllByRecursion (λ entry. 0x8A < entry.0) env.old }
     requires few { length env.old ≤ 16 }
     requires all_short { AllByRecursion (λ entry. length entry.1 ≤ 256) env.old }
-    ensures objects { env.new ≡ if_there 0x91 (option_map (λ value. value.items) value.now) ++ env.old }
+    ensures objects { env.new ≡ object_if_there 0x91 (option_map (λ value. value.items) value.now) ++ env.old }
     ensures above_code { AllByRecursion (λ entry. 0x8A < entry.0) env.new }
     ensures few { length env.new ≤ 17 }
     ensures all_short { AllByRecursion (λ entry. length entry.1 ≤ 256) env.new }
@@ -52,20 +52,20 @@ fn put_lasting(
     settings: &Settings,
     purchase: &Purchase,
     row: &AidRow,
-    moment: &Moment,
+    state_so_far: &StateSoFar,
 )
     requires settings { IsSettings settings.now }
     requires purchase { IsPurchase purchase.now }
-    ensures objects { env.new ≡ lasting_objects (record { settings = settings.now; purchase = purchase.now }) row.now moment.now }
+    ensures objects { env.new ≡ lasting_objects (record { settings = settings.now; purchase = purchase.now }) row.now state_so_far.now }
     ensures above { AllByRecursion (λ entry. 0x91 < entry.0) env.new }
     ensures above_code { AllByRecursion (λ entry. 0x8A < entry.0) env.new }
     ensures few { length env.new ≤ 16 }
     ensures all_short { AllByRecursion (λ entry. length entry.1 ≤ 256) env.new }
 {
     env.clear();
-    add_last(env, Tag(0x95), &moment.tvr.bytes());
+    add_last(env, Tag(0x95), &state_so_far.tvr.bytes());
     add_last(env, Tag(0x9a), &purchase.date);
-    add_last(env, Tag(0x9b), &moment.tsi.bytes());
+    add_last(env, Tag(0x9b), &state_so_far.tsi.bytes());
     add_last(env, Tag(0x9c), &[purchase.trade]);
     add_last(env, Tag(0x5f2a), &purchase.currency);
     add_last(env, Tag(0x9f02), &amount_bytes(purchase.amount));
@@ -76,7 +76,7 @@ fn put_lasting(
     add_last(env, Tag(0x9f1c), &settings.id);
     add_last(env, Tag(0x9f21), &purchase.time);
     add_last(env, Tag(0x9f33), &settings.caps);
-    add_last(env, Tag(0x9f34), &moment.results);
+    add_last(env, Tag(0x9f34), &state_so_far.results);
     add_last(env, Tag(0x9f35), &[two_digits(settings.kind)]);
     add_last(env, Tag(0x9f37), &purchase.number);
 }

@@ -7,13 +7,13 @@ use Rattle.std.proofs.lemmas.Bool.Decides.{nat_tests, Decides-eqb}
 use Rattle.std.proofs.lemmas.List.{get_or-set_same, get_or-set_other, get_or-take, get_or-drop, get_or_append_left, length-take, length-drop, length-append, length-replicate}
 use Rattle.std.proofs.lemmas.List.Prefix.{front_reads, front_fits}
 use Rattle.std.proofs.lemmas.Slice.Eq.{starts_is}
-use Rattle.torn_store.specs.Layout.{joined, overlaid, state_in, framed, part_of, filled, changes, changed_from, changed_in, is_rising}
+use Rattle.torn_store.specs.Layout.{bytes_of_pages, overlaid, state_in, framed, page_part, padded_page, changes, changed_from, changed_in, is_rising}
 use Rattle.torn_store.specs.declared.layout.Block.{Block}
 use Rattle.torn_store.proofs.Frames.{state_from_reads, found_reads}
 use Rattle.torn_store.proofs.Sizes.{Sized, sized_set, sized_count, joined_at, joined_long}
 
 abbrev pub block_at : ℕ → List ℕ → Block
-block_at place frame = record { page = place + 1; bytes = filled (part_of frame place) }
+block_at place frame = record { page = place + 1; bytes = padded_page (page_part frame place) }
 
 pub changed_more : (place left : ℕ) (known frame : List ℕ) → changes known frame place ≡ true
     → changed_from place (suc left) known frame ≡ block_at place frame ∷ changed_from (place + 1) left known frame
@@ -31,7 +31,7 @@ changed_left n place known frame next below is =
     ap (λ (left : ℕ). changed_from place left known frame) one ∙ is
 
 pub left_same : (n place : ℕ) (known frame rest part : List ℕ) (done whole : List Block) → place < n → rest ≡ drop (64 * place) known
-    → part ≡ part_of frame place → true ≡ starts_with ◌==◌ rest part → done ++ changed_from place (n - place) known frame ≡ whole
+    → part ≡ page_part frame place → true ≡ starts_with ◌==◌ rest part → done ++ changed_from place (n - place) known frame ≡ whole
     → done ++ changed_from (place + 1) (n - (place + 1)) known frame ≡ whole
 left_same n place known frame rest part done whole below is_rest is_part begins so_far =
     let same : changes known frame place ≡ false = rw (← is_rest, ← is_part, ← begins) refl in
@@ -40,7 +40,7 @@ left_same n place known frame rest part done whole below is_rest is_part begins 
     ∙ so_far
 
 pub left_more : (n place : ℕ) (known frame rest part : List ℕ) (done more whole : List Block) → place < n → rest ≡ drop (64 * place) known
-    → part ≡ part_of frame place → false ≡ starts_with ◌==◌ rest part → more ≡ done ++ block_at place frame ∷ []
+    → part ≡ page_part frame place → false ≡ starts_with ◌==◌ rest part → more ≡ done ++ block_at place frame ∷ []
     → done ++ changed_from place (n - place) known frame ≡ whole
     → more ++ changed_from (place + 1) (n - (place + 1)) known frame ≡ whole
 left_more n place known frame rest part done more whole below is_rest is_part begins is_more so_far =
@@ -51,16 +51,16 @@ left_more n place known frame rest part done more whole below is_rest is_part be
     (sym (changed_left n place known frame _ below (changed_more place (n - (place + 1)) known frame differ)))
     ∙ so_far
 
-pub filled_long : (part : List ℕ) → length part ≤ 64 → length (filled part) ≡ 64
+pub filled_long : (part : List ℕ) → length part ≤ 64 → length (padded_page part) ≡ 64
 filled_long part short = omega (arith, length-append part (replicate (64 - length part) 0), length-replicate {A = ℕ} (64 - length part) 0)
 
-pub part_short : (frame : List ℕ) (place : ℕ) → length (part_of frame place) ≤ 64
+pub part_short : (frame : List ℕ) (place : ℕ) → length (page_part frame place) ≤ 64
 part_short frame place = omega (arith, length-take 64 (drop (64 * place) frame))
 
-part_long : (frame : List ℕ) (place r : ℕ) → r < 64 → 64 * place + r < length frame → r < length (part_of frame place)
+part_long : (frame : List ℕ) (place r : ℕ) → r < 64 → 64 * place + r < length frame → r < length (page_part frame place)
 part_long frame place r below inside = omega (arith, length-take 64 (drop (64 * place) frame), length-drop (64 * place) frame)
 
-part_at : (frame : List ℕ) (place r : ℕ) → r < 64 → get_or (part_of frame place) r 0 ≡ get_or frame (64 * place + r) 0
+part_at : (frame : List ℕ) (place r : ℕ) → r < 64 → get_or (page_part frame place) r 0 ≡ get_or frame (64 * place + r) 0
 part_at frame place r below = get_or-take 64 (drop (64 * place) frame) r 0 below ∙ get_or-drop (64 * place) frame r 0
 
 -- a home that begins with the known bytes, from a page on
@@ -79,9 +79,9 @@ is_true true e = refl
 is_true false e = cc
 
 begins_known : (known frame : List ℕ) (place : ℕ) → changes known frame place ≡ false
-    → drop (64 * place) known ≡ part_of frame place ++ drop (length (part_of frame place)) (drop (64 * place) known)
+    → drop (64 * place) known ≡ page_part frame place ++ drop (length (page_part frame place)) (drop (64 * place) known)
 begins_known known frame place is =
-    let part : List ℕ = part_of frame place in
+    let part : List ℕ = page_part frame place in
     let begins : starts_with ◌==◌ (drop (64 * place) known) part ≡ true = is_true (starts_with ◌==◌ (drop (64 * place) known) part) is in
     (starts_is Decides-eqb (drop (64 * place) known) part (starts_with ◌==◌ (drop (64 * place) known) part) refl).0 begins
 
@@ -89,7 +89,7 @@ begins_known known frame place is =
 same_part : (known frame : List ℕ) (home : List (List ℕ)) (place r : ℕ) → changes known frame place ≡ false → Knows home place known
     → r < 64 → 64 * place + r < length frame → get_or (get_or home place []) r 0 ≡ get_or frame (64 * place + r) 0
 same_part known frame home place r is knows below inside =
-    let part : List ℕ = part_of frame place in
+    let part : List ℕ = page_part frame place in
     let rest : List ℕ = drop (64 * place) known in
     let begins = begins_known known frame place is in
     let long = part_long frame place r below inside in
@@ -101,9 +101,9 @@ same_part known frame home place r is knows below inside =
 
 -- a page that changes holds its part of the frame
 new_part : (frame : List ℕ) (place r : ℕ) → r < 64 → 64 * place + r < length frame
-    → get_or (filled (part_of frame place)) r 0 ≡ get_or frame (64 * place + r) 0
+    → get_or (padded_page (page_part frame place)) r 0 ≡ get_or frame (64 * place + r) 0
 new_part frame place r below inside =
-    get_or_append_left (part_of frame place) (replicate (64 - length (part_of frame place)) 0) 0 r (part_long frame place r below inside)
+    get_or_append_left (page_part frame place) (replicate (64 - length (page_part frame place)) 0) 0 r (part_long frame place r below inside)
     ∙ part_at frame place r below
 
 at_or_after : (place p : ℕ) → place ≤ p → (p ≡ place) ⊎ (place + 1 ≤ p)
@@ -134,9 +134,9 @@ overlays_same place left known frame home over is knows rest = record {
 }
 
 overlays_more : (place left : ℕ) (frame : List ℕ) (home over : List (List ℕ)) → place < 17 → Sized 17 home
-    → Overlays (place + 1) left frame (set home place (filled (part_of frame place))) over → Overlays place (suc left) frame home over
+    → Overlays (place + 1) left frame (set home place (padded_page (page_part frame place))) over → Overlays place (suc left) frame home over
 overlays_more place left frame home over inside_home sized rest =
-    let page : List ℕ = filled (part_of frame place) in
+    let page : List ℕ = padded_page (page_part frame place) in
     let count = sized_count 17 home sized in
     record {
       sized = rest.sized;
@@ -166,14 +166,14 @@ overlays_step : (test : Bool) (place left : ℕ) (known frame : List ℕ) (home 
     → Overlays (place + 1) left frame next (overlaid (changed_from (place + 1) left known frame) next))
     → Overlays place (suc left) frame home (overlaid (changed_from place (suc left) known frame) home)
 overlays_step true place left known frame home is inside sized knows rest =
-    let page : List ℕ = filled (part_of frame place) in
+    let page : List ℕ = padded_page (page_part frame place) in
     let here : place + 1 - 1 ≡ place = omega arith in
     let blocks : List Block = changed_from (place + 1) left known frame in
     let over : overlaid (changed_from place (suc left) known frame) home ≡ overlaid blocks (set home place page) =
     ap (λ (l : List Block). overlaid l home) (changed_more place left known frame is) ∙ ap (λ (p : ℕ). overlaid blocks (set home p page)) here in
     subst (λ (l : List (List ℕ)). Overlays place (suc left) frame home l) (sym over)
     (overlays_more place left frame home (overlaid blocks (set home place page)) inside sized
-    (rest (set home place page) (sized_set 17 place home page sized (filled_long (part_of frame place) (part_short frame place)))
+    (rest (set home place page) (sized_set 17 place home page sized (filled_long (page_part frame place) (part_short frame place)))
     (knows_set home place known page knows)))
 overlays_step false place left known frame home is inside sized knows rest =
     let over : overlaid (changed_from place (suc left) known frame) home ≡ overlaid (changed_from (place + 1) left known frame) home =
@@ -191,8 +191,8 @@ overlays (suc left) place known frame home few sized knows =
 
 -- A home that begins with the known bytes gives the state, once it has the pages that change.
 pub changed_gives : (known state : List ℕ) (home : List (List ℕ)) → length state ≤ 1024 → length known ≤ 1026 → Sized 17 home
-    → ((i : ℕ) → i < length known → get_or (joined home) i 0 ≡ get_or known i 0)
-    → state_in (joined (overlaid (changed_in known (framed state)) home)) ≡ Some state
+    → ((i : ℕ) → i < length known → get_or (bytes_of_pages home) i 0 ≡ get_or known i 0)
+    → state_in (bytes_of_pages (overlaid (changed_in known (framed state)) home)) ≡ Some state
 changed_gives known state home fits short sized reads =
     let frame : List ℕ = framed state in
     let size : length frame ≡ length state + 2 = omega arith in
@@ -201,20 +201,20 @@ changed_gives known state home fits short sized reads =
     let whole = overlays n 0 known frame home (omega arith) sized
     (λ p r from below inside. sym (joined_at 17 p r home sized (omega arith) below) ∙ reads (64 * p + r) inside) in
     let long = joined_long 17 over whole.sized in
-    state_from_reads (joined over) state fits (omega arith)
+    state_from_reads (bytes_of_pages over) state fits (omega arith)
     (λ i below.
     let p : ℕ = i / 64 in
     let r : ℕ = i % 64 in
     let split : 64 * p + r ≡ i = omega arith in
-    subst (λ (k : ℕ). get_or (joined over) k 0 ≡ get_or frame k 0) split
+    subst (λ (k : ℕ). get_or (bytes_of_pages over) k 0 ≡ get_or frame k 0) split
     (joined_at 17 p r over whole.sized (omega arith) (omega arith) ∙ whole.after p r (omega arith) (omega arith) (omega arith) (omega arith)))
 
 -- a home with an old state gives the new one, once it has the pages that change
 pub changed_recovers : (old new : List ℕ) (home : List (List ℕ)) → length old ≤ 1024 → length new ≤ 1024 → Sized 17 home
-    → state_in (joined home) ≡ Some old → state_in (joined (overlaid (changed_in (framed old) (framed new)) home)) ≡ Some new
+    → state_in (bytes_of_pages home) ≡ Some old → state_in (bytes_of_pages (overlaid (changed_in (framed old) (framed new)) home)) ≡ Some new
 changed_recovers old new home short fits sized found =
     let long = joined_long 17 home sized in
-    changed_gives (framed old) new home fits (omega arith) sized (found_reads (joined home) old (omega arith) found)
+    changed_gives (framed old) new home fits (omega arith) sized (found_reads (bytes_of_pages home) old (omega arith) found)
 
 rising_step : (test : Bool) (above place left : ℕ) (known frame : List ℕ) → changes known frame place ≡ test → above ≤ place → place + suc left ≤ 17
     → ((least : ℕ) → least ≤ place + 1 → is_rising least (map (λ (b : Block). b.page) (changed_from (place + 1) left known frame)) ≡ true)

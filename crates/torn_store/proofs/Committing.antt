@@ -4,8 +4,8 @@ use Rattle.std.specs.Prelude.{Contains}
 use Rattle.std.proofs.lemmas.List.{take-set-le, drop-set-lt, drop_more, drop-drop, get_or-set_other, length-set, length-drop, length-append, length-map}
 use Rattle.std.proofs.lemmas.Bool.Decides.{nat_tests}
 use Rattle.emv_ports.specs.Cut.{is_plan}
-use Rattle.emv_ports.specs.Memory.{Memory, written, marked}
-use Rattle.torn_store.specs.Layout.{joined, state_in, overlaid, paired, numbers_in, is_rising, recover_at, recover, framed, part_of, changes, changed_from, changed_in, changed, commit_writes}
+use Rattle.emv_ports.specs.Memory.{Memory, page_written, commit_marked}
+use Rattle.torn_store.specs.Layout.{bytes_of_pages, state_in, overlaid, paired, numbers_in, is_rising, recover_at, recover, framed, page_part, changes, changed_from, changed_in, changed_pages, commit_writes}
 use Rattle.torn_store.specs.Recovery.{Among}
 use Rattle.torn_store.specs.Store.{IsOn, IsReady}
 use Rattle.torn_store.specs.Writing.{WritesAll, StopsIn, Row, RowCut, journaled, header, gate, replay_row, commit_row}
@@ -37,7 +37,7 @@ home_rising (b ∷ blocks) above rises =
 whole_step : (test : Bool) (place left : ℕ) (known frame : List ℕ) → changes known frame place ≡ test → Whole (changed_from (place + 1) left known frame)
     → Whole (changed_from place (suc left) known frame)
 whole_step true place left known frame is rest =
-    subst Whole (sym (changed_more place left known frame is)) (filled_long (part_of frame place) (part_short frame place), rest)
+    subst Whole (sym (changed_more place left known frame is)) (filled_long (page_part frame place) (part_short frame place), rest)
 whole_step false place left known frame is rest = subst Whole (sym (changed_same place left known frame is)) rest
 
 pub whole_changed : (left place : ℕ) (known frame : List ℕ) → Whole (changed_from place left known frame)
@@ -61,7 +61,7 @@ journaled_long page (b ∷ blocks) = ap suc (journaled_long (page + 1) blocks)
 row_size : (blocks : List Block) (old new : Memory) → length old.cells ≡ 64 → WritesAll old blocks new → length new.cells ≡ 64
 row_size [] old new size all = ap (λ (m : Memory). length m.cells) all ∙ size
 row_size (b ∷ blocks) old new size all =
-    row_size blocks (written old b.page b.bytes) new (length-set old.cells b.page (map Some b.bytes) ∙ size) all.1
+    row_size blocks (page_written old b.page b.bytes) new (length-set old.cells b.page (map Some b.bytes) ∙ size) all.1
 
 -- the journal gives the blocks, whatever is read
 abbrev Journals : ℕ → List Block → List (List ℕ) → Type 0
@@ -71,7 +71,7 @@ journal_sure : (blocks : List Block) (page place : ℕ) (old new : Memory) → p
     → WritesAll old (journaled page blocks) new → Says (Journals place blocks) new.cells
 journal_sure [] page place old new is few size all = λ pages reading. refl
 journal_sure (b ∷ blocks) page place old new is few size all = λ pages reading.
-    let first : Memory = written old page b.bytes in
+    let first : Memory = page_written old page b.bytes in
     let P : List (List ℕ) → Type 0 = λ (l : List (List ℕ)). get_or l place [] ≡ b.bytes in
     let here : Says P first.cells =
     says_written (λ (l : List (List ℕ)). Unit {0}) P old.cells page place b.bytes is (omega (arith, length-drop 1 old.cells)) (λ l page given same. given) (λ l read. tt) in
@@ -98,7 +98,7 @@ home_keeps state number from =
     let named : number ≡ number - 1 + 1 = omega arith in
     let behind : 17 ≤ number - 1 = omega arith in
     keeps_behind 0 number (number - 1) (Home state) named
-    (λ pages bytes home. ap (λ (l : List (List ℕ)). state_in (joined l)) (sym (take-set-le 17 pages (number - 1) bytes behind)) ∙ home)
+    (λ pages bytes home. ap (λ (l : List (List ℕ)). state_in (bytes_of_pages l)) (sym (take-set-le 17 pages (number - 1) bytes behind)) ∙ home)
 
 -- the journal and its header are whole, and the gate is still closed
 record Prepared (memory : Memory) (old new : List ℕ) (blocks : List Block) : Type 0 where
@@ -107,7 +107,7 @@ record Prepared (memory : Memory) (old new : List ℕ) (blocks : List Block) : T
   pub journal : Says (Journals 18 blocks) memory.cells
   pub says : Says (Shows (numbers_of blocks) new) memory.cells
 
-pub changed_length : (old new : List ℕ) → length new ≤ 1024 → length (changed old new) ≤ 17
+pub changed_length : (old new : List ℕ) → length new ≤ 1024 → length (changed_pages old new) ≤ 17
 changed_length old new fits =
     let few = changed_few ((length (framed new) + 63) / 64) 0 (framed old) (framed new) in omega arith
 
@@ -117,10 +117,10 @@ changed_rises known state fits = rising ((length (framed state) + 63) / 64) 0 0 
 header_long : (blocks : List Block) → length blocks ≤ 17 → length (header blocks) ≡ 64
 header_long blocks few = filled_long (length blocks ∷ numbers_of blocks) (omega (arith, length-map blocks (λ (b : Block). b.page)))
 
-prepared : (start mid : Memory) (old new : List ℕ) → IsReady start old → length new ≤ 1024 → WritesAll start (journaled 19 (changed old new)) mid
-    → Prepared (written mid 18 (header (changed old new))) old new (changed old new)
+prepared : (start mid : Memory) (old new : List ℕ) → IsReady start old → length new ≤ 1024 → WritesAll start (journaled 19 (changed_pages old new)) mid
+    → Prepared (page_written mid 18 (header (changed_pages old new))) old new (changed_pages old new)
 prepared start mid old new ready fits all =
-    let blocks : List Block = changed old new in
+    let blocks : List Block = changed_pages old new in
     let few : length blocks ≤ 17 = changed_length old new fits in
     let rises = changed_rises (framed old) new fits in
     let whole : Whole blocks = whole_changed ((length (framed new) + 63) / 64) 0 (framed old) (framed new) in
@@ -128,7 +128,7 @@ prepared start mid old new ready fits all =
     let mid_home : Behind 0 (Home old) mid.cells =
     keep_all (Behind 0 (Home old)) (journaled 19 blocks) start mid
     (keep_journaled (Behind 0 (Home old)) 19 blocks (λ number from. home_keeps old number (omega arith))) all (ready.closed, ready.stands) in
-    let last : Memory = written mid 18 (header blocks) in
+    let last : Memory = page_written mid 18 (header blocks) in
     let last_on : IsOn last = on_written mid 18 (header blocks) mid_on (header_long blocks few) in
     let home : Behind 0 (Home old) last.cells = home_keeps old 18 (omega arith) mid.cells (map Some (header blocks)) mid_home in
     let mid_journal : Says (Journals 18 blocks) mid.cells =
@@ -149,48 +149,48 @@ prepared start mid old new ready fits all =
             size = sized_count 63 pages sized;
             names = ap numbers_in (named pages reading) ∙ header_names blocks few rises;
             gives =
-                ap (λ (l : List Block). state_in (joined (overlaid l (take 17 pages)))) (journal pages reading)
+                ap (λ (l : List Block). state_in (bytes_of_pages (overlaid l (take 17 pages)))) (journal pages reading)
                 ∙ changed_recovers old new (take 17 pages) ready.fits fits (sized_take 63 17 pages (omega arith) sized) (home.1 pages reading);
           };
     }
 
-opened : (memory : Memory) (old new : List ℕ) → length new ≤ 1024 → Prepared memory old new (changed old new)
-    → Opened (written memory 0 (gate 1).bytes) (numbers_of (changed old new)) new
+opened : (memory : Memory) (old new : List ℕ) → length new ≤ 1024 → Prepared memory old new (changed_pages old new)
+    → Opened (page_written memory 0 (gate 1).bytes) (numbers_of (changed_pages old new)) new
 opened memory old new fits whole = record {
   on = gate_on memory 1 whole.on;
   open_gate = gate_written memory 1 whole.on;
-  few = omega (arith, length-map (changed old new) (λ (b : Block). b.page), changed_length old new fits);
+  few = omega (arith, length-map (changed_pages old new) (λ (b : Block). b.page), changed_length old new fits);
   rises = changed_rises (framed old) new fits;
-  says = says_behind_first (Shows (numbers_of (changed old new)) new) memory.cells (map Some (gate 1).bytes) whole.says;
+  says = says_behind_first (Shows (numbers_of (changed_pages old new)) new) memory.cells (map Some (gate 1).bytes) whole.says;
 }
 
 -- what the journal shows once the gate is open are the blocks
-shown_is : (memory : Memory) (old new : List ℕ) → Prepared memory old new (changed old new)
-    → shown_blocks (written memory 0 (gate 1).bytes) (numbers_of (changed old new)) ≡ changed old new
+shown_is : (memory : Memory) (old new : List ℕ) → Prepared memory old new (changed_pages old new)
+    → shown_blocks (page_written memory 0 (gate 1).bytes) (numbers_of (changed_pages old new)) ≡ changed_pages old new
 shown_is memory old new whole =
-    let blocks : List Block = changed old new in
+    let blocks : List Block = changed_pages old new in
     ap (paired (numbers_of blocks)) (drop-set-lt 19 memory.shown 0 (gate 1).bytes (omega arith) ∙ sym (drop-drop 18 1 memory.shown))
     ∙ whole.journal (drop 1 memory.shown) (reading_rest memory.cells memory.shown whole.on.reading)
 
 -- a commit was written
-pub commit_all : (start last : Memory) (old new : List ℕ) → IsReady start old → length new ≤ 1024 → WritesAll start (commit_row (changed old new)) last
+pub commit_all : (start last : Memory) (old new : List ℕ) → IsReady start old → length new ≤ 1024 → WritesAll start (commit_row (changed_pages old new)) last
     → IsReady last new
 commit_all start last old new ready fits all =
-    let blocks : List Block = changed old new in
+    let blocks : List Block = changed_pages old new in
     let split = all_split start last (journaled 19 blocks) (record { page = 18; bytes = header blocks } ∷ gate 1 ∷ replay_row blocks) all in
     let whole = prepared start split.0 old new ready fits split.1 in
-    let memory : Memory = written split.0 18 (header blocks) in
-    opened_all (written memory 0 (gate 1).bytes) last (numbers_of blocks) new (opened memory old new fits whole) fits
-    (subst (λ (l : List Block). WritesAll (written memory 0 (gate 1).bytes) (replay_row l) last) (sym (shown_is memory old new whole)) split.2.1.1)
+    let memory : Memory = page_written split.0 18 (header blocks) in
+    opened_all (page_written memory 0 (gate 1).bytes) last (numbers_of blocks) new (opened memory old new fits whole) fits
+    (subst (λ (l : List Block). WritesAll (page_written memory 0 (gate 1).bytes) (replay_row l) last) (sym (shown_is memory old new whole)) split.2.1.1)
 
 home_among : (cells : Cells) (state : List ℕ) (states : List (List ℕ)) → Behind 0 (Home state) cells → Contains states state → Among recover cells states
 home_among cells state states home has = stands_among recover_at cells 0 state states (gate_sure cells 0 home.0) (omega arith) home.1 has
 
 -- a commit was cut
 pub commit_stops : (start last : Memory) (old new : List ℕ) (states : List (List ℕ)) → IsReady start old → length new ≤ 1024
-    → Contains states old → Contains states new → StopsIn start (commit_row (changed old new)) last → Among recover last.cells states
+    → Contains states old → Contains states new → StopsIn start (commit_row (changed_pages old new)) last → Among recover last.cells states
 commit_stops start last old new states ready fits has_old has_new stops =
-    let blocks : List Block = changed old new in
+    let blocks : List Block = changed_pages old new in
     let P : Cells → Type 0 = Behind 0 (Home old) in
     let keeps = keep_journaled P 19 blocks (λ number from. home_keeps old number (omega arith)) in
     elim (stops_split start last (journaled 19 blocks) (record { page = 18; bytes = header blocks } ∷ gate 1 ∷ replay_row blocks) stops) [
@@ -199,7 +199,7 @@ commit_stops start last old new states ready fits has_old has_new stops =
           let mid : Memory = late.0 in
           let here : P mid.cells = keep_all P (journaled 19 blocks) start mid keeps late.1 (ready.closed, ready.stands) in
           let whole = prepared start mid old new ready fits late.1 in
-          let memory : Memory = written mid 18 (header blocks) in
+          let memory : Memory = page_written mid 18 (header blocks) in
           elim late.2 [
             | inl cut ↦ home_among last.cells old states (keep_cut P mid last 18 (header blocks) (home_keeps old 18 (omega arith)) cut here) has_old
             | inr behind ↦
@@ -208,15 +208,15 @@ commit_stops start last old new states ready fits has_old has_new stops =
                       gate_cut memory last 0 1 1 old new states (gate_sure memory.cells 0 whole.home.0) refl whole.home.1
                       (shows_stands (numbers_of blocks) new memory.cells whole.says) has_old has_new cut
                   | inr after ↦
-                      opened_stops (written memory 0 (gate 1).bytes) last (numbers_of blocks) new states (opened memory old new fits whole) has_new
-                      (subst (λ (l : List Block). StopsIn (written memory 0 (gate 1).bytes) (replay_row l) last) (sym (shown_is memory old new whole)) after.1)
+                      opened_stops (page_written memory 0 (gate 1).bytes) last (numbers_of blocks) new states (opened memory old new fits whole) has_new
+                      (subst (λ (l : List Block). StopsIn (page_written memory 0 (gate 1).bytes) (replay_row l) last) (sym (shown_is memory old new whole)) after.1)
                 ]
           ]
     ]
 
-pub commit_row_long : (old new : List ℕ) → length (commit_row (changed old new)) ≡ commit_writes old new
+pub commit_row_long : (old new : List ℕ) → length (commit_row (changed_pages old new)) ≡ commit_writes old new
 commit_row_long old new =
-    let blocks : List Block = changed old new in
+    let blocks : List Block = changed_pages old new in
     let ends : length (blocks ++ gate 0 ∷ []) ≡ length blocks + 1 = length-append blocks (gate 0 ∷ []) in
     length-append (journaled 19 blocks) (record { page = 18; bytes = header blocks } ∷ gate 1 ∷ replay_row blocks)
     ∙ omega (arith, journaled_long 19 blocks)
@@ -233,7 +233,7 @@ format_all start last state on fits all =
     (λ i below. absurd (omega arith)))
     all
 
-pub ready_marked : (memory : Memory) (state : List ℕ) → IsReady memory state → IsReady (marked memory) state
+pub ready_marked : (memory : Memory) (state : List ℕ) → IsReady memory state → IsReady (commit_marked memory) state
 ready_marked memory state ready = record {
   on = record { on = ready.on.on; sized = ready.on.sized; reading = ready.on.reading; plan = ready.on.plan };
   fits = ready.fits;
@@ -243,19 +243,19 @@ ready_marked memory state ready = record {
 
 -- how many writes a commit made, none of which was cut
 pub commit_counted : (start last : Memory) (old new : List ℕ) → IsTrue (is_plan start.plan) → start.writes ≡ 0 → length new ≤ 1024
-    → WritesAll start (commit_row (changed old new)) last → Row start last (commit_writes old new)
+    → WritesAll start (commit_row (changed_pages old new)) last → Row start last (commit_writes old new)
 commit_counted start last old new planned first fits all =
     let long = commit_row_long old new in
-    let few : length (commit_row (changed old new)) ≤ 100 = omega (arith, changed_length old new fits) in
-    let all_rows = row_all (commit_row (changed old new)) start start last 0 (row_none start planned first) (omega arith) all in
-    let count : 0 + length (commit_row (changed old new)) ≡ commit_writes old new = omega arith in
+    let few : length (commit_row (changed_pages old new)) ≤ 100 = omega (arith, changed_length old new fits) in
+    let all_rows = row_all (commit_row (changed_pages old new)) start start last 0 (row_none start planned first) (omega arith) all in
+    let count : 0 + length (commit_row (changed_pages old new)) ≡ commit_writes old new = omega arith in
     subst (λ (n : ℕ). Row start last n) count all_rows
 
 pub commit_cut : (start last : Memory) (old new : List ℕ) → IsTrue (is_plan start.plan) → start.writes ≡ 0 → length new ≤ 1024
-    → StopsIn start (commit_row (changed old new)) last → RowCut start last (commit_writes old new)
+    → StopsIn start (commit_row (changed_pages old new)) last → RowCut start last (commit_writes old new)
 commit_cut start last old new planned first fits stops =
     let long = commit_row_long old new in
-    row_stops (commit_row (changed old new)) start start last 0 (commit_writes old new) (row_none start planned first) (omega arith)
+    row_stops (commit_row (changed_pages old new)) start start last 0 (commit_writes old new) (row_none start planned first) (omega arith)
     (omega (arith, changed_length old new fits)) stops
 
 -- the blocks of a change are for pages of the memory

@@ -3,12 +3,12 @@ use Rattle.std.proofs.Common.{◌≡◌, ◌<◌, ◌≤◌, ◌%◌, ℕ, zero,
 use Rattle.std.specs.Prelude.{Contains}
 use Rattle.std.proofs.Math.ListN.{set}
 use Rattle.std.proofs.lemmas.List.{get_or-set_same, get_or-set_other, get_or-drop, set-get_or, drop-set-lt, length-append, length-drop}
-use Rattle.emv_ports.specs.Memory.{Memory, written, next_write_cut, torn_page}
+use Rattle.emv_ports.specs.Memory.{Memory, page_written, next_write_cut, torn_page}
 use Rattle.emv_ports.specs.declared.tear.Cut.TheVariants.{Spared}
 use Rattle.emv_ports.specs.PageReading.{Reading}
-use Rattle.torn_store.specs.Layout.{joined, overlaid, paired, numbers_in, recover_at, recover, replayed}
+use Rattle.torn_store.specs.Layout.{bytes_of_pages, overlaid, paired, numbers_in, recover_at, recover, replayed}
 use Rattle.torn_store.specs.Recovery.{lowest, Among}
-use Rattle.torn_store.specs.Store.{Stands, IsOn, IsReady}
+use Rattle.torn_store.specs.Store.{StandUnderBit, IsOn, IsReady}
 use Rattle.torn_store.specs.Writing.{WritesAll, StopsIn, gate, replay_row, mending_row, repair_row}
 use Rattle.torn_store.specs.declared.layout.Block.{Block}
 use Rattle.torn_store.proofs.Frames.{found_fits}
@@ -37,7 +37,7 @@ reading_put cells pages place page reading there =
     reading_back cells pages place (get_or cells place []) page (subst (λ (c : Cells). Reading c pages) (sym (set-get_or cells place [])) reading) there
 
 -- the header names the same pages in every reading
-names_sure : (cells : Cells) (state : List ℕ) → length cells ≡ 64 → Stands cells 1 state → (one other : List (List ℕ)) → Reading (drop 1 cells) one
+names_sure : (cells : Cells) (state : List ℕ) → length cells ≡ 64 → StandUnderBit cells 1 state → (one other : List (List ℕ)) → Reading (drop 1 cells) one
     → Reading (drop 1 cells) other → length one ≡ 63 → numbers_in (get_or other 17 []) ≡ numbers_in (get_or one 17 [])
 names_sure cells state size stands one other read_one read_other long =
     let inside : 17 < length (drop 1 cells) = omega (arith, length-drop 1 cells) in
@@ -48,7 +48,7 @@ names_sure cells state size stands one other read_one read_other long =
     (get_or other 17 []) (get_or one 17 []) (reading_at (drop 1 cells) other 17 read_other inside) (reading_at (drop 1 cells) one 17 read_one inside)
 
 -- the gate is whole and open, and the pages behind it stand for the state
-opened_found : (memory : Memory) (state numbers : List ℕ) → IsOn memory → get_or memory.cells 0 [] ≡ replicate 64 (Some 1) → Stands memory.cells 1 state
+opened_found : (memory : Memory) (state numbers : List ℕ) → IsOn memory → get_or memory.cells 0 [] ≡ replicate 64 (Some 1) → StandUnderBit memory.cells 1 state
     → numbers_in (get_or memory.shown 18 []) ≡ Some numbers → Opened memory numbers state
 opened_found memory state numbers on open_gate stands named =
     let cells_size = sized_count 64 memory.cells on.sized in
@@ -74,7 +74,7 @@ opened_found memory state numbers on open_gate stands named =
 
 -- what is left of a repair once the gate is whole
 mended_all : (bit : ℕ) (memory new : Memory) (state : List ℕ) → bit < 2 → IsOn memory → get_or memory.cells 0 [] ≡ replicate 64 (Some bit)
-    → Stands memory.cells bit state → length state ≤ 1024 → WritesAll memory (mending_row bit (numbers_in (get_or memory.shown 18 [])) memory.shown) new
+    → StandUnderBit memory.cells bit state → length state ≤ 1024 → WritesAll memory (mending_row bit (numbers_in (get_or memory.shown 18 [])) memory.shown) new
     → IsReady new state
 mended_all zero memory new state small on closed stands fits all =
     let here : IsReady memory state = record { on = on; fits = fits; closed = closed; stands = stands } in
@@ -88,7 +88,7 @@ mended_all (suc zero) memory new state small on open_gate stands fits all =
 mended_all (suc (suc bit)) memory new state small on closed stands fits all = absurd (omega arith)
 
 mended_stops : (bit : ℕ) (memory new : Memory) (state : List ℕ) (states : List (List ℕ)) → bit < 2 → IsOn memory
-    → get_or memory.cells 0 [] ≡ replicate 64 (Some bit) → Stands memory.cells bit state → Contains states state
+    → get_or memory.cells 0 [] ≡ replicate 64 (Some bit) → StandUnderBit memory.cells bit state → Contains states state
     → StopsIn memory (mending_row bit (numbers_in (get_or memory.shown 18 [])) memory.shown) new → Among recover new.cells states
 mended_stops zero memory new state states small on closed stands has stops = absurd stops
 mended_stops (suc zero) memory new state states small on open_gate stands has stops =
@@ -107,32 +107,32 @@ mending_same (suc bit) (Some numbers) one other same = ap (λ (l : List (List �
 
 -- the gate's page changes nothing of what the header and the journal show
 mending_shown : (memory : Memory) (bit : ℕ) → mending_row bit (numbers_in (get_or memory.shown 18 [])) memory.shown
-    ≡ mending_row bit (numbers_in (get_or (written memory 0 (gate bit).bytes).shown 18 [])) (written memory 0 (gate bit).bytes).shown
+    ≡ mending_row bit (numbers_in (get_or (page_written memory 0 (gate bit).bytes).shown 18 [])) (page_written memory 0 (gate bit).bytes).shown
 mending_shown memory bit =
     ap (λ (l : List ℕ). mending_row bit (numbers_in l) memory.shown)
     (sym (get_or-set_other memory.shown 0 18 (gate bit).bytes [] (λ e. absurd (omega (arith, e)))))
-    ∙ mending_same bit (numbers_in (get_or (written memory 0 (gate bit).bytes).shown 18 [])) memory.shown (written memory 0 (gate bit).bytes).shown
+    ∙ mending_same bit (numbers_in (get_or (page_written memory 0 (gate bit).bytes).shown 18 [])) memory.shown (page_written memory 0 (gate bit).bytes).shown
     (sym (drop-set-lt 19 memory.shown 0 (gate bit).bytes (omega arith)))
 
 gate_stands : (memory : Memory) (state : List ℕ) (states : List (List ℕ)) → IsOn memory → Among recover memory.cells states → recover memory.shown ≡ Some state
-    → Stands (written memory 0 (gate (lowest memory.shown)).bytes).cells (lowest memory.shown) state
+    → StandUnderBit (page_written memory 0 (gate (lowest memory.shown)).bytes).cells (lowest memory.shown) state
 gate_stands memory state states on among found =
     says_behind_first (λ (pages : List (List ℕ)). recover_at (lowest memory.shown) pages ≡ Some state) memory.cells
     (map Some (gate (lowest memory.shown)).bytes) (read_stands recover_at memory.cells memory.shown state among.laid on.reading found)
 
 recovered_fits : (bit : ℕ) (pages : List (List ℕ)) (state : List ℕ) → recover_at bit pages ≡ Some state → length state ≤ 1024
-recovered_fits zero pages state found = found_fits (joined (take 17 pages)) state found
+recovered_fits zero pages state found = found_fits (bytes_of_pages (take 17 pages)) state found
 recovered_fits (suc bit) pages state found = replayed_fits (numbers_in (get_or pages 17 [])) pages state found where
   replayed_fits : (numbers : Option (List ℕ)) (pages : List (List ℕ)) (state : List ℕ) → replayed numbers pages ≡ Some state → length state ≤ 1024
   replayed_fits None pages state found = cc
-  replayed_fits (Some numbers) pages state found = found_fits (joined (overlaid (paired numbers (drop 18 pages)) (take 17 pages))) state found
+  replayed_fits (Some numbers) pages state found = found_fits (bytes_of_pages (overlaid (paired numbers (drop 18 pages)) (take 17 pages))) state found
 
 -- a repair was written: the pages stand for the state that they showed
 pub repair_all : (memory new : Memory) (state : List ℕ) (states : List (List ℕ)) → IsOn memory → Among recover memory.cells states
     → recover memory.shown ≡ Some state → WritesAll memory (repair_row memory.shown) new → IsReady new state
 repair_all memory new state states on among found all =
     let bit : ℕ = lowest memory.shown in
-    let whole : Memory = written memory 0 (gate bit).bytes in
+    let whole : Memory = page_written memory 0 (gate bit).bytes in
     mended_all bit whole new state (omega arith) (gate_on memory bit on) (gate_written memory bit on) (gate_stands memory state states on among found)
     (recovered_fits bit (drop 1 memory.shown) state found)
     (subst (λ (l : List Block). WritesAll whole l new) (mending_shown memory bit) all.1)
@@ -155,7 +155,7 @@ repair_stops memory new states on among stops =
           ]
       | inr rest ↦
           let one = among.each memory.shown on.reading in
-          let whole : Memory = written memory 0 (gate bit).bytes in
+          let whole : Memory = page_written memory 0 (gate bit).bytes in
           mended_stops bit whole new one.0 states (omega arith) (gate_on memory bit on) (gate_written memory bit on)
           (gate_stands memory one.0 states on among one.2) one.1
           (subst (λ (l : List Block). StopsIn whole l new) (mending_shown memory bit) rest.1)
@@ -178,29 +178,29 @@ repair_few shown =
 pub lowest_read : (shown : List (List ℕ)) (page : List ℕ) → page ≡ get_or shown 0 [] → get_or page 0 0 % 2 ≡ lowest shown
 lowest_read shown page is = ap (λ (l : List ℕ). get_or l 0 0 % 2) is
 
-gate_is : (old mid : Memory) (bit : ℕ) → bit ≡ lowest old.shown → mid ≡ written old 0 (gate bit).bytes → mid ≡ written old 0 (gate (lowest old.shown)).bytes
-gate_is old mid bit is wrote = wrote ∙ ap (λ (b : ℕ). written old 0 (gate b).bytes) is
+gate_is : (old mid : Memory) (bit : ℕ) → bit ≡ lowest old.shown → mid ≡ page_written old 0 (gate bit).bytes → mid ≡ page_written old 0 (gate (lowest old.shown)).bytes
+gate_is old mid bit is wrote = wrote ∙ ap (λ (b : ℕ). page_written old 0 (gate b).bytes) is
 
 open_bit : (shown : List (List ℕ)) (bit : ℕ) → bit ≡ lowest shown → (bit ≡ 0 → ⊥) → 1 ≡ lowest shown
 open_bit shown bit is some = let one : bit ≡ 1 = grind arith in sym one ∙ is
 
 -- behind an open gate the journal was replayed, as the repair's row has it
-pub closes_all : (old mid new : Memory) (bit : ℕ) → bit ≡ lowest old.shown → (bit ≡ 0 → ⊥) → next_write_cut old ≡ Spared → mid ≡ written old 0 (gate bit).bytes
+pub closes_all : (old mid new : Memory) (bit : ℕ) → bit ≡ lowest old.shown → (bit ≡ 0 → ⊥) → next_write_cut old ≡ Spared → mid ≡ page_written old 0 (gate bit).bytes
     → WritesAll mid (mending_row 1 (numbers_in (get_or mid.shown 18 [])) mid.shown) new → WritesAll old (repair_row old.shown) new
 closes_all old mid new bit is some spared wrote all =
     let low : ℕ = lowest old.shown in
-    let whole : Memory = written old 0 (gate low).bytes in
+    let whole : Memory = page_written old 0 (gate low).bytes in
     let moved : WritesAll whole (mending_row 1 (numbers_in (get_or whole.shown 18 [])) whole.shown) new =
     subst (λ (m : Memory). WritesAll m (mending_row 1 (numbers_in (get_or m.shown 18 [])) m.shown) new) (gate_is old mid bit is wrote) all in
     let turned : WritesAll whole (mending_row low (numbers_in (get_or whole.shown 18 [])) whole.shown) new =
     subst (λ (n : ℕ). WritesAll whole (mending_row n (numbers_in (get_or whole.shown 18 [])) whole.shown) new) (open_bit old.shown bit is some) moved in
     (spared, subst (λ (l : List Block). WritesAll whole l new) (sym (mending_shown old low)) turned)
 
-pub closes_stops : (old mid new : Memory) (bit : ℕ) → bit ≡ lowest old.shown → (bit ≡ 0 → ⊥) → next_write_cut old ≡ Spared → mid ≡ written old 0 (gate bit).bytes
+pub closes_stops : (old mid new : Memory) (bit : ℕ) → bit ≡ lowest old.shown → (bit ≡ 0 → ⊥) → next_write_cut old ≡ Spared → mid ≡ page_written old 0 (gate bit).bytes
     → StopsIn mid (mending_row 1 (numbers_in (get_or mid.shown 18 [])) mid.shown) new → StopsIn old (repair_row old.shown) new
 closes_stops old mid new bit is some spared wrote stops =
     let low : ℕ = lowest old.shown in
-    let whole : Memory = written old 0 (gate low).bytes in
+    let whole : Memory = page_written old 0 (gate low).bytes in
     let moved : StopsIn whole (mending_row 1 (numbers_in (get_or whole.shown 18 [])) whole.shown) new =
     subst (λ (m : Memory). StopsIn m (mending_row 1 (numbers_in (get_or m.shown 18 [])) m.shown) new) (gate_is old mid bit is wrote) stops in
     let turned : StopsIn whole (mending_row low (numbers_in (get_or whole.shown 18 [])) whole.shown) new =

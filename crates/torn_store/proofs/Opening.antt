@@ -4,11 +4,11 @@ use Rattle.std.specs.Prelude.{Contains, unwrap_or}
 use Rattle.std.proofs.lemmas.List.{ext_get_or, get_or-map, get_or-replicate, get_or-drop, length-map, length-replicate, length-append}
 use Rattle.std.proofs.lemmas.List.Elements.{Contains-append_left, Contains-append_right}
 use Rattle.emv_ports.specs.Causes.{one_more}
-use Rattle.emv_ports.specs.Cut.{is_plan, is_named, cuts_among}
+use Rattle.emv_ports.specs.Cut.{is_plan, names_commit, cuts_among}
 use Rattle.emv_ports.specs.Memory.{Memory, PowersUp, gone, next_release_cut}
 use Rattle.emv_ports.specs.declared.tear.Cut.TheVariants.{Spared, CutBefore}
 use Rattle.torn_store.specs.Conversion.{converted}
-use Rattle.torn_store.specs.Layout.{numbers_in, recover_at, recover, framed, changed_in, changed}
+use Rattle.torn_store.specs.Layout.{numbers_in, recover_at, recover, framed, changed_in, changed_pages}
 use Rattle.torn_store.specs.Recovery.{lowest, Among, Holds}
 use Rattle.torn_store.specs.Store.{IsOn, IsReady}
 use Rattle.torn_store.specs.Writing.{WritesAll, StopsIn, Row, RowCut, WroteFew, StoppedFew, TurnedOn, LostAt, gate, replay_row, repair_row, commit_row}
@@ -87,31 +87,31 @@ mends_is old new state mended read = let same : Some mended.state ≡ Some state
 pub converted_is : (means : List ℕ → Option (List ℕ)) (state next : List ℕ) → means state ≡ Some next → converted means state ≡ next
 converted_is means state next is = ap (λ (o : Option (List ℕ)). unwrap_or o state) is
 
-row_as : (s state n next : List ℕ) → s ≡ state → n ≡ next → commit_row (changed s n) ≡ commit_row (changed state next)
-row_as s state n next e f = ap (λ (l : List ℕ). commit_row (changed l n)) e ∙ ap (λ (l : List ℕ). commit_row (changed state l)) f
+row_as : (s state n next : List ℕ) → s ≡ state → n ≡ next → commit_row (changed_pages s n) ≡ commit_row (changed_pages state next)
+row_as s state n next e f = ap (λ (l : List ℕ). commit_row (changed_pages l n)) e ∙ ap (λ (l : List ℕ). commit_row (changed_pages state l)) f
 
 -- the new state was written
 pub convert_all : (old new : Memory) (s state n next : List ℕ) → s ≡ state → n ≡ next → length n ≤ 1024 → IsReady old state
-    → WritesAll old (commit_row (changed s n)) new → IsReady new next
+    → WritesAll old (commit_row (changed_pages s n)) new → IsReady new next
 convert_all old new s state n next e f fits ready all =
     commit_all old new state next ready (subst (λ (l : List ℕ). length l ≤ 1024) f fits) (subst (λ (l : List Block). WritesAll old l new) (row_as s state n next e f) all)
 
 pub convert_stops : (old new : Memory) (s state n next : List ℕ) (means : List ℕ → Option (List ℕ)) (states : List (List ℕ)) → s ≡ state → n ≡ next → length n ≤ 1024
     → IsReady old state → means s ≡ Some next → Contains states state → Contains states (converted means state)
-    → StopsIn old (commit_row (changed s n)) new → Among recover new.cells states
+    → StopsIn old (commit_row (changed_pages s n)) new → Among recover new.cells states
 convert_stops old new s state n next means states e f fits ready is has_old has_new stops =
     let next_is : converted means state ≡ next = converted_is means state next (ap means (sym e) ∙ is) in
     commit_stops old new state next states ready (subst (λ (l : List ℕ). length l ≤ 1024) f fits) has_old
     (subst (λ (l : List ℕ). Contains states l) next_is has_new) (subst (λ (l : List Block). StopsIn old l new) (row_as s state n next e f) stops)
 
-commit_short : (s n : List ℕ) → length n ≤ 1024 → length (commit_row (changed s n)) ≤ 37
+commit_short : (s n : List ℕ) → length n ≤ 1024 → length (commit_row (changed_pages s n)) ≤ 37
 commit_short s n fits = omega (arith, commit_row_long s n, changed_length s n fits)
 
-pub convert_wrote : (old new : Memory) (s n : List ℕ) → length n ≤ 1024 → WritesAll old (commit_row (changed s n)) new → WroteFew old new 37
-convert_wrote old new s n fits all = record { row = commit_row (changed s n); few = commit_short s n fits; all = all }
+pub convert_wrote : (old new : Memory) (s n : List ℕ) → length n ≤ 1024 → WritesAll old (commit_row (changed_pages s n)) new → WroteFew old new 37
+convert_wrote old new s n fits all = record { row = commit_row (changed_pages s n); few = commit_short s n fits; all = all }
 
-pub convert_stopped : (old new : Memory) (s n : List ℕ) → length n ≤ 1024 → StopsIn old (commit_row (changed s n)) new → StoppedFew old new 37
-convert_stopped old new s n fits stops = record { row = commit_row (changed s n); few = commit_short s n fits; stops = stops }
+pub convert_stopped : (old new : Memory) (s n : List ℕ) → length n ≤ 1024 → StopsIn old (commit_row (changed_pages s n)) new → StoppedFew old new 37
+convert_stopped old new s n fits stops = record { row = commit_row (changed_pages s n); few = commit_short s n fits; stops = stops }
 
 -- behind a power-up no write was made yet
 up_row : (old on : Memory) → PowersUp old on → Row on on 0
@@ -139,9 +139,9 @@ counted old on mid now up all wrote =
       row = row_all wrote.row on mid now (length (repair_row on.shown)) (repair_count old on mid up all) (omega arith) wrote.all;
     }
 
-named_zero : (old on : Memory) → PowersUp old on → is_named on.plan on.commit ≡ is_named old.plan 0
+named_zero : (old on : Memory) → PowersUp old on → names_commit on.plan on.commit ≡ names_commit old.plan 0
 named_zero old on up =
-    ap (λ (p : Option _). is_named p on.commit) (ap (λ (m : Memory). m.plan) up.turned_on) ∙ ap (is_named old.plan) (ap (λ (m : Memory). m.commit) up.turned_on)
+    ap (λ (p : Option _). names_commit p on.commit) (ap (λ (m : Memory). m.plan) up.turned_on) ∙ ap (names_commit old.plan) (ap (λ (m : Memory). m.commit) up.turned_on)
 
 lost_in_row : (old on new : Memory) (number : ℕ) → PowersUp old on → RowCut on new number → LostAt old new
 lost_in_row old on new number up lost = record {
@@ -169,9 +169,9 @@ pub lost_in_release : (old on mid now new : Memory) → PowersUp old on → Writ
     → next_release_cut now ≡ CutBefore → new ≡ gone now → LostAt old new
 lost_in_release old on mid now new up all wrote cut is =
     let count = counted old on mid now up all wrote in
-    let named : is_named now.plan now.commit ≡ true = release_cut_named now.plan now.commit now.writes cut in
-    let named_on : is_named on.plan on.commit ≡ true =
-    sym (ap (λ (p : Option _). is_named p now.commit) count.row.plan ∙ ap (is_named on.plan) count.row.commit) ∙ named in
+    let named : names_commit now.plan now.commit ≡ true = release_cut_named now.plan now.commit now.writes cut in
+    let named_on : names_commit on.plan on.commit ≡ true =
+    sym (ap (λ (p : Option _). names_commit p now.commit) count.row.plan ∙ ap (names_commit on.plan) count.row.commit) ∙ named in
     record {
       cut = sym (named_zero old on up) ∙ named_on;
       gone = record {
@@ -182,16 +182,16 @@ lost_in_release old on mid now new up all wrote cut is =
     }
 
 opened_unnamed : (old on mid now : Memory) → PowersUp old on → WritesAll on (repair_row on.shown) mid → WroteFew mid now 37 → next_release_cut now ≡ Spared
-    → is_named old.plan 0 ≡ false
+    → names_commit old.plan 0 ≡ false
 opened_unnamed old on mid now up all wrote spared =
     let count = counted old on mid now up all wrote in
     let none : cuts_among now.plan now.commit now.writes ≡ false =
     ap (λ (p : Option _). cuts_among p now.commit now.writes) count.row.plan
     ∙ ap (λ (n : ℕ). cuts_among on.plan n now.writes) count.row.commit
     ∙ ap (cuts_among on.plan on.commit) count.row.writes ∙ count.row.spared in
-    let free : is_named now.plan now.commit ≡ false = spared_not_named now.plan now.commit now.writes none spared in
+    let free : names_commit now.plan now.commit ≡ false = spared_not_named now.plan now.commit now.writes none spared in
     sym (named_zero old on up)
-    ∙ sym (ap (λ (p : Option _). is_named p now.commit) count.row.plan ∙ ap (is_named on.plan) count.row.commit) ∙ free
+    ∙ sym (ap (λ (p : Option _). names_commit p now.commit) count.row.plan ∙ ap (names_commit on.plan) count.row.commit) ∙ free
 
 pub opened_on : (old on mid now new : Memory) → PowersUp old on → WritesAll on (repair_row on.shown) mid → WroteFew mid now 37 → next_release_cut now ≡ Spared → new ≡ now
     → TurnedOn old new

@@ -5,9 +5,9 @@ use Rattle.std.proofs.Math.ListN.{set}
 use Rattle.std.proofs.lemmas.Bool.{eqb-true, eqb-false}
 use Rattle.std.proofs.lemmas.Bool.Decides.{nat_tests}
 use Rattle.std.proofs.lemmas.List.{set-set, set_comm, set-get_or, get_or-take, get_or-set_other, drop-set-lt, length-set, length-take, length-drop}
-use Rattle.emv_ports.specs.Memory.{Memory, written}
-use Rattle.torn_store.specs.Layout.{joined, state_in, overlaid, paired, numbers_in, is_rising, replayed}
-use Rattle.torn_store.specs.Store.{Stands}
+use Rattle.emv_ports.specs.Memory.{Memory, page_written}
+use Rattle.torn_store.specs.Layout.{bytes_of_pages, state_in, overlaid, paired, numbers_in, is_rising, replayed}
+use Rattle.torn_store.specs.Store.{StandUnderBit}
 use Rattle.torn_store.specs.Writing.{WritesAll}
 use Rattle.torn_store.specs.declared.layout.Block.{Block}
 use Rattle.torn_store.proofs.Frames.{both_true}
@@ -81,7 +81,7 @@ names_rise (count ∷ text) numbers found = names_if (nat_le count 17 && is_risi
 
 -- the home under these blocks gives the state
 abbrev pub Left : List Block → List ℕ → List (List ℕ) → Type 0
-Left blocks state pages = state_in (joined (overlaid blocks (take 17 pages))) ≡ Some state
+Left blocks state pages = state_in (bytes_of_pages (overlaid blocks (take 17 pages))) ≡ Some state
 
 left_step : (block : Block) (blocks : List Block) (state : List ℕ) (place : ℕ) (pages : List (List ℕ)) (old : List ℕ) → block.page ≡ place + 1 → place < 17
     → get_or pages place [] ≡ block.bytes → Left (block ∷ blocks) state (set pages place old) → Left blocks state pages
@@ -95,7 +95,7 @@ left_step block blocks state place pages old named inside is so_far =
     ∙ set-set home place old block.bytes
     ∙ ap (set home place) (sym given)
     ∙ set-get_or home place [] in
-    ap (λ (l : List (List ℕ)). state_in (joined (overlaid blocks l))) (sym same) ∙ so_far
+    ap (λ (l : List (List ℕ)). state_in (bytes_of_pages (overlaid blocks l))) (sym same) ∙ so_far
 
 -- each block is for a page of the home
 abbrev pub AtHome : List Block → Type 0
@@ -110,14 +110,14 @@ home_within (b ∷ blocks) at_home (suc k) d inside = home_within blocks at_home
 
 -- once all blocks are written, the home gives the state by itself
 pub left_all : (blocks : List Block) (old new : Memory) (state : List ℕ) → length old.cells ≡ 64 → AtHome blocks → Says (Left blocks state) old.cells
-    → WritesAll old blocks new → Stands new.cells 0 state
-left_all [] old new state size at_home says all = subst (λ (c : Cells). Stands c 0 state) (sym (ap (λ (m : Memory). m.cells) all)) says
+    → WritesAll old blocks new → StandUnderBit new.cells 0 state
+left_all [] old new state size at_home says all = subst (λ (c : Cells). StandUnderBit c 0 state) (sym (ap (λ (m : Memory). m.cells) all)) says
 left_all (b ∷ blocks) old new state size at_home says all =
     let place : ℕ = b.page - 1 in
     let from : 1 ≤ b.page = at_home.0 in
     let to : b.page ≤ 17 = at_home.1 in
     let named : b.page ≡ place + 1 = omega arith in
-    left_all blocks (written old b.page b.bytes) new state (length-set old.cells b.page (map Some b.bytes) ∙ size) at_home.2
+    left_all blocks (page_written old b.page b.bytes) new state (length-set old.cells b.page (map Some b.bytes) ∙ size) at_home.2
     (says_written (Left (b ∷ blocks) state) (Left blocks state) old.cells b.page place b.bytes named (omega (arith, length-drop 1 old.cells))
     (λ pages page is. left_step b blocks state place pages page named (omega arith) is) says)
     all.1
@@ -128,7 +128,7 @@ pub record Shows (numbers state : List ℕ) (pages : List (List ℕ)) : Type 0 w
   pub names : numbers_in (get_or pages 17 []) ≡ Some numbers
   pub gives : Left (paired numbers (drop 18 pages)) state pages
 
-pub shows_stands : (numbers state : List ℕ) (cells : Cells) → Says (Shows numbers state) cells → Stands cells 1 state
+pub shows_stands : (numbers state : List ℕ) (cells : Cells) → Says (Shows numbers state) cells → StandUnderBit cells 1 state
 shows_stands numbers state cells says = λ pages reading.
     let shows = says pages reading in ap (λ (o : Option (List ℕ)). replayed o pages) shows.names ∙ shows.gives
 
@@ -144,7 +144,7 @@ shows_ignores numbers state k place inside few named below pages bytes shows =
       size = size;
       names = ap numbers_in (sym (get_or-set_other pages place 17 bytes [] other)) ∙ shows.names;
       gives =
-          ap (λ (l : List (List ℕ)). state_in (joined l))
+          ap (λ (l : List (List ℕ)). state_in (bytes_of_pages l))
           (sym (overlaid_ignores k place numbers (drop 18 pages) (take 17 pages) bytes inside enough named)
           ∙ ap (overlaid (paired numbers (drop 18 pages))) (sym (take_set 17 place pages bytes))
           ∙ ap (λ (l : List (List ℕ)). overlaid (paired numbers l) (take 17 (set pages place bytes))) (sym journal))

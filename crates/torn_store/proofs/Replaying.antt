@@ -3,11 +3,11 @@ use Rattle.std.proofs.Common.{◌≡◌, ◌≢◌, ◌<◌, ◌≤◌, ◌+◌,
 use Rattle.std.specs.Prelude.{Contains}
 use Rattle.std.proofs.Math.ListN.{set}
 use Rattle.std.proofs.lemmas.List.{get_or-set_same, get_or-set_other, length-replicate, take_at, drop_at, drop-drop, length-take-le}
-use Rattle.emv_ports.specs.Memory.{Memory, written, CutWrite, torn_page}
+use Rattle.emv_ports.specs.Memory.{Memory, page_written, CutWrite, torn_page}
 use Rattle.emv_ports.specs.PageReading.{Reading}
-use Rattle.torn_store.specs.Layout.{joined, state_in, overlaid, paired, is_rising, recover_at, recover}
+use Rattle.torn_store.specs.Layout.{bytes_of_pages, state_in, overlaid, paired, is_rising, recover_at, recover}
 use Rattle.torn_store.specs.Recovery.{first_cell, Among}
-use Rattle.torn_store.specs.Store.{Stands, IsOn, IsReady}
+use Rattle.torn_store.specs.Store.{StandUnderBit, IsOn, IsReady}
 use Rattle.torn_store.specs.Writing.{WritesAll, StopsIn, gate, replay_row}
 use Rattle.torn_store.specs.declared.layout.Block.{Block}
 use Rattle.torn_store.proofs.Gates.{Says, Ignores, says_behind_first, says_elsewhere, first_torn, stands_among, stands_holds, both_among}
@@ -68,17 +68,17 @@ keeps_behind bit number place P is ignores cells page behind =
     let other : 0 ≢ number = λ e. absurd (omega (arith, e)) in
     (get_or-set_other cells number 0 page [] other ∙ behind.0, says_elsewhere P cells number place page is ignores behind.1)
 
-pub gate_written : (memory : Memory) (bit : ℕ) → IsOn memory → get_or (written memory 0 (gate bit).bytes).cells 0 [] ≡ replicate 64 (Some bit)
+pub gate_written : (memory : Memory) (bit : ℕ) → IsOn memory → get_or (page_written memory 0 (gate bit).bytes).cells 0 [] ≡ replicate 64 (Some bit)
 gate_written memory bit on =
     let count = sized_count 64 memory.cells on.sized in
     get_or-set_same memory.cells 0 (map Some (replicate 64 bit)) [] (omega arith)
 
-pub gate_on : (memory : Memory) (bit : ℕ) → IsOn memory → IsOn (written memory 0 (gate bit).bytes)
+pub gate_on : (memory : Memory) (bit : ℕ) → IsOn memory → IsOn (page_written memory 0 (gate bit).bytes)
 gate_on memory bit on = on_written memory 0 (gate bit).bytes on (length-replicate 64 bit)
 
 -- a cut while the gate is turned: the pages stand for one of two states
 pub gate_cut : (now new : Memory) (from to bit : ℕ) (before after : List ℕ) (states : List (List ℕ)) → first_cell now.cells ≡ Some from → from + to ≡ 1
-    → Stands now.cells from before → Stands now.cells to after → Contains states before → Contains states after
+    → StandUnderBit now.cells from before → StandUnderBit now.cells to after → Contains states before → Contains states after
     → CutWrite now 0 (gate bit).bytes new → Among recover new.cells states
 gate_cut now new from to bit before after states is together stands_before stands_after has_before has_after cut =
     let small : from < 2 = omega arith in
@@ -104,8 +104,8 @@ replay_all old new blocks state on fits whole at_home left all =
     let split = all_split old new blocks (gate 0 ∷ []) all in
     let mid : Memory = split.0 in
     let mid_on : IsOn mid = on_all blocks old mid on whole split.1 in
-    let stands : Stands mid.cells 0 state = left_all blocks old mid state (sized_count 64 old.cells on.sized) at_home left split.1 in
-    let last : IsReady (written mid 0 (gate 0).bytes) state = record {
+    let stands : StandUnderBit mid.cells 0 state = left_all blocks old mid state (sized_count 64 old.cells on.sized) at_home left split.1 in
+    let last : IsReady (page_written mid 0 (gate 0).bytes) state = record {
       on = gate_on mid 0 mid_on;
       fits = fits;
       closed = gate_written mid 0 mid_on;
@@ -136,8 +136,8 @@ opened_left memory numbers state opened = λ pages reading.
     let home : take 17 mixed ≡ take 17 pages = take_at (take 17 pages) (drop 17 shown) 17 front in
     let journal : drop 18 mixed ≡ drop 19 memory.shown =
     sym (drop-drop 1 17 mixed) ∙ ap (drop 1) (drop_at (take 17 pages) (drop 17 shown) 17 front) ∙ drop-drop 1 17 shown ∙ drop-drop 18 1 memory.shown in
-    ap (λ (l : List (List ℕ)). state_in (joined (overlaid (shown_blocks memory numbers) l))) (sym home)
-    ∙ ap (λ (l : List (List ℕ)). state_in (joined (overlaid (paired numbers l) (take 17 mixed)))) (sym journal)
+    ap (λ (l : List (List ℕ)). state_in (bytes_of_pages (overlaid (shown_blocks memory numbers) l))) (sym home)
+    ∙ ap (λ (l : List (List ℕ)). state_in (bytes_of_pages (overlaid (paired numbers l) (take 17 mixed)))) (sym journal)
     ∙ shows.gives
 
 pub opened_all : (old new : Memory) (numbers state : List ℕ) → Opened old numbers state → length state ≤ 1024
@@ -173,7 +173,7 @@ opened_stops old new numbers state states opened has stops =
       | inr late ↦
           let mid : Memory = late.0 in
           let here : P mid.cells = keep_all P blocks old mid keeps late.1 start in
-          let home : Stands mid.cells 0 state =
+          let home : StandUnderBit mid.cells 0 state =
           left_all blocks old mid state (sized_count 64 old.cells opened.on.sized)
           (home_paired numbers (drop 19 old.shown) (λ k below. rising_at numbers 0 k opened.rises below)) (opened_left old numbers state opened) late.1 in
           elim late.2 [

@@ -2,7 +2,7 @@
 use Rattle.std.proofs.Common.{◌≡◌, ◌<◌, ◌≤◌, ◌+◌, ◌-◌, ◌*◌, ℕ, zero, suc, List, [], ◌∷◌, ◌++◌, length, get_or, take, drop, map, replicate, refl, ap, sym, ◌∙◌, arith}
 use Rattle.std.proofs.Math.ListN.{set}
 use Rattle.std.proofs.lemmas.List.{map-set, length-map, length-replicate, length-append, get_or_append_left, get_or-append-add, take-map, drop-map, take-replicate, drop-replicate}
-use Rattle.torn_store.specs.Layout.{joined}
+use Rattle.torn_store.specs.Layout.{bytes_of_pages}
 
 set-replicate : (n i x : ℕ) → set (replicate n x) i x ≡ replicate n x
 set-replicate zero i x = refl
@@ -27,27 +27,27 @@ module _ {X : Type 0} where
   sized_drop n m pages sized =
       sym (drop-map length m pages) ∙ ap (drop m) sized ∙ drop-replicate m (m + n) 64 ∙ (let rest : m + n - m ≡ n = omega arith in ap (λ (k : ℕ). replicate k 64) rest)
 
-pub joined_long : (n : ℕ) (pages : List (List ℕ)) → Sized n pages → length (joined pages) ≡ 64 * n
+pub joined_long : (n : ℕ) (pages : List (List ℕ)) → Sized n pages → length (bytes_of_pages pages) ≡ 64 * n
 joined_long zero [] sized = refl
 joined_long (suc n) [] sized = cc
 joined_long zero (page ∷ pages) sized = cc
 joined_long (suc n) (page ∷ pages) sized =
     let long : length page ≡ 64 = cc in
     let rest : map length pages ≡ replicate n 64 = cc in
-    omega (arith, length-append page (joined pages), joined_long n pages rest)
+    omega (arith, length-append page (bytes_of_pages pages), joined_long n pages rest)
 
 -- each byte of the joined pages is one of a page
 pub joined_at : (n p r : ℕ) (pages : List (List ℕ)) → Sized n pages → p < n → r < 64
-    → get_or (joined pages) (64 * p + r) 0 ≡ get_or (get_or pages p []) r 0
+    → get_or (bytes_of_pages pages) (64 * p + r) 0 ≡ get_or (get_or pages p []) r 0
 joined_at n p r [] sized inside below = absurd (let none : length (replicate n 64) ≡ 0 = ap length (sym sized) in omega (arith, length-replicate {A = ℕ} n 64))
 joined_at zero p r (page ∷ pages) sized inside below = cc
 joined_at (suc n) zero r (page ∷ pages) sized inside below =
     let long : length page ≡ 64 = cc in
     let here : 64 * 0 + r ≡ r = omega arith in
-    ap (λ (i : ℕ). get_or (page ++ joined pages) i 0) here ∙ get_or_append_left page (joined pages) 0 r (omega arith)
+    ap (λ (i : ℕ). get_or (page ++ bytes_of_pages pages) i 0) here ∙ get_or_append_left page (bytes_of_pages pages) 0 r (omega arith)
 joined_at (suc n) (suc p) r (page ∷ pages) sized inside below =
     let long : length page ≡ 64 = cc in
     let rest : map length pages ≡ replicate n 64 = cc in
     let there : 64 * suc p + r ≡ length page + (64 * p + r) = omega arith in
-    ap (λ (i : ℕ). get_or (page ++ joined pages) i 0) there ∙ get_or-append-add page (joined pages) (64 * p + r) 0
+    ap (λ (i : ℕ). get_or (page ++ bytes_of_pages pages) i 0) there ∙ get_or-append-add page (bytes_of_pages pages) (64 * p + r) 0
     ∙ joined_at n p r pages rest (omega arith) below

@@ -1,17 +1,18 @@
 -- From the pages and the state inside to the store as its callers see it.
-use Rattle.std.proofs.Common.{◌≡◌, ◌⊎◌, ◌<◌, ◌≤◌, ℕ, zero, suc, List, [], ◌∷◌, length, get_or, ap, sym, ◌∙◌, subst, arith, inl, inr, lit<, refl, Some, true}
+use Rattle.std.proofs.Common.{◌≡◌, ◌⊎◌, ◌+◌, ◌*◌, ◌<◌, ◌≤◌, ℕ, zero, suc, List, [], ◌∷◌, length, get_or, ap, sym, ◌∙◌, subst, arith, inl, inr, lit<, refl, Some, None, true}
 use Rattle.std.specs.Prelude.{Contains}
 use Rattle.emv_ports.specs.Causes.{one_more}
 use Rattle.emv_ports.specs.Cut.{write_cut, cuts_among}
-use Rattle.emv_ports.specs.Memory.{Memory, next, marked, gone, next_write_cut, next_release_cut}
+use Rattle.emv_ports.specs.Memory.{Memory, next, commit_marked, gone, next_write_cut, next_release_cut}
 use Rattle.emv_ports.specs.declared.tear.Cut.TheVariants.{Spared, CutBefore}
-use Rattle.torn_store.specs.Layout.{recover, commit_writes}
+use Rattle.torn_store.specs.Layout.{recover, changed_pages, commit_writes}
 use Rattle.torn_store.specs.Recovery.{Holds, Among, Between}
 use Rattle.torn_store.specs.Store.{Stored, IsGate, IsReady}
-use Rattle.torn_store.specs.Placed.{IsPlaced, Commits, CommitTorn, Releases, ReleaseTorn}
-use Rattle.torn_store.specs.Writing.{Row, RowCut}
+use Rattle.torn_store.specs.Placed.{IsPlaced, FormatsStore, OpensStore, Commits, CommitTorn, Releases, ReleaseTorn, TurnedOnce}
+use Rattle.torn_store.specs.Writing.{Row, RowCut, TurnedOn}
 use Rattle.torn_store.proofs.Committing.{changed_length}
 use Rattle.torn_store.proofs.Opening.{ready_holds}
+use Rattle.torn_store.proofs.Outcomes.{among_within}
 use Rattle.torn_store.proofs.Rows.{Cells}
 
 abbrev pub stored : Memory → List ℕ → Stored
@@ -26,7 +27,7 @@ same_holds seen memory state cells view ready same =
 
 -- a commit was cut before its first write
 pub commit_before : (seen : Stored) (memory : Memory) (state : List ℕ) (cells : Cells) → stored memory state ≡ seen → IsReady memory state
-    → (next_write_cut (marked memory) ≡ CutBefore → cells ≡ memory.cells) → write_cut seen.memory.plan (next seen.memory.commit) 1 ≡ CutBefore
+    → (next_write_cut (commit_marked memory) ≡ CutBefore → cells ≡ memory.cells) → write_cut seen.memory.plan (next seen.memory.commit) 1 ≡ CutBefore
     → Holds recover cells seen.state
 commit_before seen memory state cells view ready unchanged cut =
     let as_seen : write_cut memory.plan (next memory.commit) 1 ≡ write_cut seen.memory.plan (next seen.memory.commit) 1 =
@@ -74,6 +75,20 @@ among_one cells state among = record {
       one.2 ∙ ap (λ (s : List ℕ). Some s) (alone_at has.0 state one.0 has.1 has.2);
 }
 
+either : {A : Type 0} (one other : A) → (one ≡ other) ⊎ (one ≡ other) → one ≡ other
+either one other (inl is) = is
+either one other (inr is) = is
+
+-- pages between a state and the same one stand for it
+pub alike : (cells : Cells) (state : List ℕ) → Between recover cells state state → Holds recover cells state
+alike cells state between =
+    among_one cells state
+    (among_within recover cells (state ∷ state ∷ []) (state ∷ []) (λ one has. (0, lit< tt, sym (either one state (one_of_two state state one has)))) between)
+
+-- a commit writes
+pub some_writes : (old new : List ℕ) (writes : ℕ) → writes ≡ commit_writes old new → 1 ≤ writes
+some_writes old new writes is = let n = length (changed_pages old new) in let is' : writes ≡ 2 * n + 3 = is in omega arith
+
 -- pages whose cells are those of a ready store have a closed gate
 gate_of : (memory : Memory) (state : List ℕ) (cells : Cells) → IsReady memory state → cells ≡ memory.cells → IsGate cells
 gate_of memory state cells ready same = record {
@@ -101,7 +116,7 @@ module _ (seen : Stored) (memory : Memory) (state : List ℕ) (view : stored mem
     spared = ap (λ (s : Stored). next_release_cut s.memory) (sym view) ∙ spared;
   }
 
-  pub release_torn : (new : Memory) → next_release_cut memory ≡ CutBefore → new ≡ gone memory → ReleaseTorn seen (stored new state)
+  pub release_torn : (new : Memory) → next_release_cut memory ≡ CutBefore → new ≡ gone memory → ReleaseTorn seen new
   release_torn new cut is = record {
     lost = placed_holds new.cells (ap (λ (m : Memory). m.cells) is);
     cut = ap (λ (s : Stored). next_release_cut s.memory) (sym view) ∙ cut;
@@ -116,7 +131,7 @@ module _ (seen : Stored) (memory : Memory) (state : List ℕ) (view : stored mem
     as_slice : stored memory slice ≡ seen
     as_slice = ap (stored memory) same ∙ view
 
-    pub commits : (new : Memory) → length text ≤ 1024 → IsReady new text → Row (marked memory) new (commit_writes slice text)
+    pub commits : (new : Memory) → length text ≤ 1024 → IsReady new text → Row (commit_marked memory) new (commit_writes slice text)
         → Commits seen text (stored new text)
     commits new fits ready row = record {
       on = ready.on.on;
@@ -131,9 +146,9 @@ module _ (seen : Stored) (memory : Memory) (state : List ℕ) (view : stored mem
       losses = row.losses ∙ ap (λ (s : Stored). s.memory.losses) view;
     }
 
-    pub commit_torn : (new : Memory) (left : List ℕ) → Between recover new.cells slice text → (next_write_cut (marked memory) ≡ CutBefore → new.cells ≡ memory.cells)
-        → RowCut (marked memory) new (commit_writes slice text) → CommitTorn seen text (stored new left)
-    commit_torn new left between unchanged row = record {
+    pub commit_torn : (new : Memory) → Between recover new.cells slice text → (next_write_cut (commit_marked memory) ≡ CutBefore → new.cells ≡ memory.cells)
+        → RowCut (commit_marked memory) new (commit_writes slice text) → CommitTorn seen text new
+    commit_torn new between unchanged row = record {
       lost = subst (λ (s : Stored). Between recover new.cells s.state text) as_slice between;
       before = commit_before seen memory state new.cells view is_ready unchanged;
       cut = ap (λ (s : Stored). cuts_among s.memory.plan (next s.memory.commit) (commit_writes s.state text)) (sym as_slice) ∙ row.cut;
@@ -143,3 +158,30 @@ module _ (seen : Stored) (memory : Memory) (state : List ℕ) (view : stored mem
         losses = row.gone.losses ∙ ap (λ (s : Stored). one_more s.memory.losses) view;
       };
     }
+
+-- pages that are ready behind a first state were formatted with it
+pub formats_store : (old new : Memory) (first : List ℕ) → IsReady new first → new.commit ≡ 0 → new.plan ≡ None → new.losses ≡ old.losses
+    → TurnedOnce old new → FormatsStore old first (stored new first)
+formats_store old new first ready commit plan losses once = record {
+  on = ready.on.on;
+  state = refl;
+  holds = ready_holds new first ready;
+  gate = gate_of new first new.cells ready refl;
+  commit = commit;
+  plan = plan;
+  losses = losses;
+  once = once;
+}
+
+-- pages that were turned on and are ready with a state were opened with it
+pub opens_store : (old new : Memory) (state : List ℕ) → IsReady new state → TurnedOn old new → OpensStore old (stored new state)
+opens_store old new state ready up = record {
+  on = ready.on.on;
+  holds = ready_holds new state ready;
+  gate = gate_of new state new.cells ready refl;
+  spared = up.spared;
+  wrote = up.wrote;
+  commit = up.commit;
+  plan = up.plan;
+  losses = up.losses;
+}

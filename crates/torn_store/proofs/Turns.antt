@@ -3,9 +3,9 @@ use Rattle.std.proofs.Common.{◌≡◌, ◌<◌, ◌+◌, ◌-◌, ◌*◌, ℕ
 use Rattle.std.proofs.lemmas.List.{length-take-le, length-drop, get_or-drop, get_or-take, take_more}
 use Rattle.std.proofs.lemmas.Slice.{take-put_mid}
 use borrow.Rule.Slice.PartMut.{put_mid}
-use Rattle.emv_ports.specs.Memory.{Memory, written, next_write_cut, CutWrite}
+use Rattle.emv_ports.specs.Memory.{Memory, page_written, next_write_cut, CutWrite}
 use Rattle.emv_ports.specs.declared.tear.Cut.TheVariants.{Spared}
-use Rattle.torn_store.specs.Layout.{joined}
+use Rattle.torn_store.specs.Layout.{bytes_of_pages}
 use Rattle.torn_store.specs.Writing.{WritesAll, StopsIn}
 use Rattle.torn_store.specs.declared.layout.Block.{Block}
 use Rattle.torn_store.proofs.Rows.{all_then, stops_first, stops_then}
@@ -19,7 +19,7 @@ pub rest_none : (start : Memory) (whole : List Block) → Rest start start whole
 rest_none start whole = record { all = λ new all. all; stops = λ new stops. stops }
 
 pub rest_more : (start now new : Memory) (whole rest after : List Block) (page : ℕ) (bytes : List ℕ) → Rest start now whole rest
-    → rest ≡ record { page = page; bytes = bytes } ∷ after → next_write_cut now ≡ Spared → new ≡ written now page bytes → Rest start new whole after
+    → rest ≡ record { page = page; bytes = bytes } ∷ after → next_write_cut now ≡ Spared → new ≡ page_written now page bytes → Rest start new whole after
 rest_more start now new whole rest after page bytes so_far is spared wrote =
     let next : Rest start now whole (record { page = page; bytes = bytes } ∷ after) = subst (λ (l : List Block). Rest start now whole l) is so_far in
     record {
@@ -45,14 +45,14 @@ rest_row start now mid whole one two so_far first = record {
 pub rest_row_stops : (start now new : Memory) (whole one two : List Block) → Rest start now whole (one ++ two) → StopsIn now one new → StopsIn start whole new
 rest_row_stops start now new whole one two so_far stops = so_far.stops new (stops_first now new one two stops)
 
-joined-push : (pages : List (List ℕ)) (page : List ℕ) → joined (pages ++ page ∷ []) ≡ joined pages ++ page
-joined-push [] page = append-nil page
-joined-push (first ∷ pages) page = ap (λ (l : List ℕ). first ++ l) (joined-push pages page) ∙ sym (append_assoc first (joined pages) page)
+bytes_of_pages-push : (pages : List (List ℕ)) (page : List ℕ) → bytes_of_pages (pages ++ page ∷ []) ≡ bytes_of_pages pages ++ page
+bytes_of_pages-push [] page = append-nil page
+bytes_of_pages-push (first ∷ pages) page = ap (λ (l : List ℕ). first ++ l) (bytes_of_pages-push pages page) ∙ sym (append_assoc first (bytes_of_pages pages) page)
 
 -- one page more of the home is read
 pub read_step : (i k : ℕ) (shown : List (List ℕ)) (bytes page : List ℕ) → i < 17 → length shown ≡ 64 → length page ≡ 64
-    → page ≡ get_or shown (1 + i) [] → length bytes ≡ 1088 → take (64 * i) bytes ≡ joined (take i (take 17 (drop 1 shown)))
-    → take (64 * (i + 1)) (put_mid (64 * i) k bytes page) ≡ joined (take (i + 1) (take 17 (drop 1 shown)))
+    → page ≡ get_or shown (1 + i) [] → length bytes ≡ 1088 → take (64 * i) bytes ≡ bytes_of_pages (take i (take 17 (drop 1 shown)))
+    → take (64 * (i + 1)) (put_mid (64 * i) k bytes page) ≡ bytes_of_pages (take (i + 1) (take 17 (drop 1 shown)))
 read_step i k shown bytes page inside size page_long is long so_far =
     let pages : List (List ℕ) = take 17 (drop 1 shown) in
     let pages_long : length pages ≡ 17 = length-take-le 17 (drop 1 shown) (omega (arith, length-drop 1 shown)) in
@@ -60,9 +60,9 @@ read_step i k shown bytes page inside size page_long is long so_far =
     let end : 64 * (i + 1) ≡ 64 * i + length page = omega arith in
     take-put_mid (64 * i) k bytes page (64 * (i + 1)) end (omega arith)
     ∙ ap (λ (l : List ℕ). l ++ page) so_far
-    ∙ ap (λ (l : List ℕ). joined (take i pages) ++ l) (is ∙ sym there)
-    ∙ sym (joined-push (take i pages) (get_or pages i []))
-    ∙ ap joined (sym (take_more pages i [] (omega arith)))
+    ∙ ap (λ (l : List ℕ). bytes_of_pages (take i pages) ++ l) (is ∙ sym there)
+    ∙ sym (bytes_of_pages-push (take i pages) (get_or pages i []))
+    ∙ ap bytes_of_pages (sym (take_more pages i [] (omega arith)))
 
 pub page_cut_long : (i : ℕ) (bytes : List ℕ) → i < 17 → length bytes ≡ 1088 → length (take (64 * i + 64 - 64 * i) (drop (64 * i) bytes)) ≡ 64
 page_cut_long i bytes inside long =

@@ -6,9 +6,9 @@ use Rattle.torn_store.specs.Recovery.{lowest}
 use Rattle.torn_store.specs.declared.layout.Block.{Block}
 
 -- the bytes of the pages, one page after another
-abbrev pub joined : List (List ℕ) → List ℕ
-joined [] = []
-joined (page ∷ pages) = page ++ joined pages
+abbrev pub bytes_of_pages : List (List ℕ) → List ℕ
+bytes_of_pages [] = []
+bytes_of_pages (page ∷ pages) = page ++ bytes_of_pages pages
 
 -- the state behind its length in two bytes, big-endian; none where the length is above 1,024
 abbrev pub state_in : List ℕ → Option (List ℕ)
@@ -41,12 +41,12 @@ overlaid (block ∷ blocks) home = overlaid blocks (slice_set home (block.page -
 -- the state of the home under the journal, for the numbers that the header gives
 abbrev pub replayed : Option (List ℕ) → List (List ℕ) → Option (List ℕ)
 replayed None pages = None
-replayed (Some numbers) pages = state_in (joined (overlaid (paired numbers (drop 18 pages)) (take 17 pages)))
+replayed (Some numbers) pages = state_in (bytes_of_pages (overlaid (paired numbers (drop 18 pages)) (take 17 pages)))
 
 -- the state in the pages behind the gate: where it is closed (0) that of the home, where it is open that of the
 -- home under the journal
 abbrev pub recover_at : ℕ → List (List ℕ) → Option (List ℕ)
-recover_at zero pages = state_in (joined (take 17 pages))
+recover_at zero pages = state_in (bytes_of_pages (take 17 pages))
 recover_at (suc bit) pages = replayed (numbers_in (slice_index_or pages 17 [])) pages
 
 -- what is recovered from the pages: the gate is open where its lowest bit is 1
@@ -58,23 +58,23 @@ abbrev pub framed : List ℕ → List ℕ
 framed state = length state / 256 ∷ length state % 256 ∷ state
 
 -- the part of a frame in the home page at this place, counted from 0
-abbrev pub part_of : List ℕ → ℕ → List ℕ
-part_of frame place = take 64 (drop (64 * place) frame)
+abbrev pub page_part : List ℕ → ℕ → List ℕ
+page_part frame place = take 64 (drop (64 * place) frame)
 
 -- a page that begins with this part, and 00 behind it
-abbrev pub filled : List ℕ → List ℕ
-filled part = part ++ replicate (64 - length part) 0
+abbrev pub padded_page : List ℕ → List ℕ
+padded_page part = part ++ replicate (64 - length part) 0
 
 -- a home that begins with the known bytes doesn't have the frame's part at this place yet
 abbrev pub changes : List ℕ → List ℕ → ℕ → Bool
-changes known frame place = not (starts_with ◌==◌ (drop (64 * place) known) (part_of frame place))
+changes known frame place = not (starts_with ◌==◌ (drop (64 * place) known) (page_part frame place))
 
 -- of so many home pages from a place on those that change
 abbrev pub changed_from : ℕ → ℕ → List ℕ → List ℕ → List Block
 changed_from place zero known frame = []
 changed_from place (suc left) known frame =
     if changes known frame place
-    then record { page = place + 1; bytes = filled (part_of frame place) } ∷ changed_from (place + 1) left known frame
+    then record { page = place + 1; bytes = padded_page (page_part frame place) } ∷ changed_from (place + 1) left known frame
     else changed_from (place + 1) left known frame
 
 -- of the home pages that hold a frame those that change, for a home that begins with the known bytes
@@ -82,9 +82,9 @@ abbrev pub changed_in : List ℕ → List ℕ → List Block
 changed_in known frame = changed_from 0 ((length frame + 63) / 64) known frame
 
 -- the home pages that change from a state to a new one
-abbrev pub changed : List ℕ → List ℕ → List Block
-changed old new = changed_in (framed old) (framed new)
+abbrev pub changed_pages : List ℕ → List ℕ → List Block
+changed_pages old new = changed_in (framed old) (framed new)
 
 -- how many writes a commit makes: each page that changes in the journal and at home, the header, and the gate twice
 abbrev pub commit_writes : List ℕ → List ℕ → ℕ
-commit_writes old new = 2 * length (changed old new) + 3
+commit_writes old new = 2 * length (changed_pages old new) + 3

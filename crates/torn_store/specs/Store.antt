@@ -18,8 +18,8 @@ pub record IsGate (cells : List (List (Option ℕ))) : Type 0 where
   pub throughout : slice_index_or cells 0 [] ≡ replicate 64 (Some byte)
 
 -- under this bit, the pages behind the first stand for the state, whatever their unsure cells give
-abbrev pub Stands : (cells : List (List (Option ℕ))) → ℕ → List ℕ → Type 0
-Stands cells bit state = (pages : List (List ℕ)) → Reading (drop 1 cells) pages → recover_at bit pages ≡ Some state
+abbrev pub StandUnderBit : (cells : List (List (Option ℕ))) → ℕ → List ℕ → Type 0
+StandUnderBit cells bit state = (pages : List (List ℕ)) → Reading (drop 1 cells) pages → recover_at bit pages ≡ Some state
 
 -- pages that are on: 64 of 64 cells, which give what a reading of the cells may give
 pub record IsOn (memory : Memory) : Type 0 where
@@ -33,10 +33,10 @@ pub record IsReady (memory : Memory) (state : List ℕ) : Type 0 where
   pub on : IsOn memory
   pub fits : length state ≤ 1024
   pub closed : slice_index_or memory.cells 0 [] ≡ replicate 64 (Some 0)
-  pub stands : Stands memory.cells 0 state
+  pub stands : StandUnderBit memory.cells 0 state
 
 -- the power was lost: the pages are off, the plan is spent, and the count of losses rose
-pub record IsGone (old new : Memory) : Type 0 where
+pub record HasLostPower (old new : Memory) : Type 0 where
   pub off : new.on ≡ false
   pub plan : new.plan ≡ None
   pub losses : new.losses ≡ one_more old.losses

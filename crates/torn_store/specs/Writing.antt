@@ -1,24 +1,30 @@
 -- Rows of writes, and what they leave of the memory.
-use Rattle.std.specs.Prelude.{◌≡◌, ◌≤◌, ◌⊎◌, ℕ, zero, suc, ◌+◌, List, [], ◌∷◌, ◌++◌, drop, map, length, replicate, slice_index_or, true, false, Option, Some, None}
-use Rattle.emv_ports.specs.Cut.{is_named, cuts_among}
-use Rattle.emv_ports.specs.Memory.{Memory, written, next_write_cut, CutWrite}
+use Rattle.std.specs.Prelude.{◌≡◌, ◌<◌, ◌≤◌, ◌⊎◌, All, ℕ, zero, suc, ◌+◌, List, [], ◌∷◌, ◌++◌, drop, map, length, replicate, slice_index_or, true, false, Option, Some, None}
+use Rattle.emv_ports.specs.Cut.{names_commit, cuts_among}
+use Rattle.emv_ports.specs.Memory.{Memory, page_written, next_write_cut, CutWrite}
 use Rattle.emv_ports.specs.declared.tear.Cut.TheVariants.{Spared}
-use Rattle.torn_store.specs.Layout.{filled, numbers_in, paired}
+use Rattle.torn_store.specs.Layout.{padded_page, numbers_in, paired}
 use Rattle.torn_store.specs.Recovery.{lowest}
-use Rattle.torn_store.specs.Store.{IsGone}
+use Rattle.torn_store.specs.Store.{HasLostPower}
 use Rattle.torn_store.specs.declared.layout.Block.{Block}
+
+-- the pages are on, and these are at most 17 blocks for pages that are there
+pub record MayWrite (memory : Memory) (blocks : List Block) : Type 0 where
+  pub on : memory.on ≡ true
+  pub few : length blocks ≤ 17
+  pub within : All (λ block. block.page < 64) blocks
 
 -- all of these writes were made, one after another
 abbrev pub WritesAll : Memory → List Block → Memory → Type 0
 WritesAll old [] new = new ≡ old
-WritesAll old (block ∷ blocks) new = (next_write_cut old ≡ Spared) × WritesAll (written old block.page block.bytes) blocks new
+WritesAll old (block ∷ blocks) new = (next_write_cut old ≡ Spared) × WritesAll (page_written old block.page block.bytes) blocks new
 
 -- one of these writes was cut, and those before it were made
 abbrev pub StopsIn : Memory → List Block → Memory → Type 0
 StopsIn old [] new = ⊥
 StopsIn old (block ∷ blocks) new =
     CutWrite old block.page block.bytes new
-    ⊎ ((next_write_cut old ≡ Spared) × StopsIn (written old block.page block.bytes) blocks new)
+    ⊎ ((next_write_cut old ≡ Spared) × StopsIn (page_written old block.page block.bytes) blocks new)
 
 -- a row of at most so many writes was made
 pub record WroteFew (old new : Memory) (most : ℕ) : Type 0 where
@@ -43,7 +49,7 @@ pub record Row (start now : Memory) (n : ℕ) : Type 0 where
 -- what is left where one of the writes is cut
 pub record RowCut (start new : Memory) (number : ℕ) : Type 0 where
   pub cut : cuts_among start.plan start.commit number ≡ true
-  pub gone : IsGone start new
+  pub gone : HasLostPower start new
 
 -- the bytes of the blocks, on the pages from this one on
 abbrev pub journaled : ℕ → List Block → List Block
@@ -52,7 +58,7 @@ journaled page (block ∷ blocks) = record { page = page; bytes = block.bytes } 
 
 -- a header that names the pages of the blocks
 abbrev pub header : List Block → List ℕ
-header blocks = filled (length blocks ∷ map (λ block. block.page) blocks)
+header blocks = padded_page (length blocks ∷ map (λ block. block.page) blocks)
 
 -- the gate's page, closed or open
 abbrev pub gate : ℕ → Block
@@ -78,7 +84,7 @@ repair_row shown = gate (lowest shown) ∷ mending_row (lowest shown) (numbers_i
 
 -- the pages were turned on and released, and some writes of commit 0 were made
 pub record TurnedOn (old new : Memory) : Type 0 where
-  pub spared : is_named old.plan 0 ≡ false
+  pub spared : names_commit old.plan 0 ≡ false
   pub commit : new.commit ≡ 0
   pub wrote : 1 ≤ new.writes
   pub plan : new.plan ≡ old.plan
@@ -86,5 +92,5 @@ pub record TurnedOn (old new : Memory) : Type 0 where
 
 -- the power was lost in commit 0, as the plan has it
 pub record LostAt (old new : Memory) : Type 0 where
-  pub cut : is_named old.plan 0 ≡ true
-  pub gone : IsGone old new
+  pub cut : names_commit old.plan 0 ≡ true
+  pub gone : HasLostPower old new

@@ -1,15 +1,15 @@
 //! The writes of a format, a commit and a repair, in an order that no loss of power spoils.
 ghost use Rattle.std.specs.Prelude.{◌≡◌, ◌<◌, ◌≤◌, ◌++◌, ℕ, List, [], length, map, slice_index_or, All, Contains, Some, None, true, false};
 ghost use Rattle.std.specs.Prelude.{IfOk, OnOk, OnErr, IsOk, IsSome};
-ghost use Rattle.emv_ports.specs.Memory.{marked, next_write_cut};
+ghost use Rattle.emv_ports.specs.Memory.{commit_marked, next_write_cut};
 ghost use Rattle.emv_ports.specs.declared.tear.Cut.TheVariants.{CutBefore};
 ghost use Rattle.torn_store.specs.Conversion.{converted};
-ghost use Rattle.torn_store.specs.Layout.{recover, changed, commit_writes, numbers_in};
+ghost use Rattle.torn_store.specs.Layout.{recover, changed_pages, commit_writes, numbers_in};
 ghost use Rattle.torn_store.specs.Recovery.{lowest, Among, Between};
-ghost use Rattle.torn_store.specs.Placed.{TurnedOnce};
+ghost use Rattle.torn_store.specs.Placed.{MayFormat, TurnedOnce};
 ghost use Rattle.torn_store.specs.Store.{IsOn, IsReady};
 ghost use Rattle.torn_store.specs.declared.layout.Block.{Block as Written};
-ghost use Rattle.torn_store.specs.Writing.{WritesAll, StopsIn, Row, RowCut, replay_row, commit_row};
+ghost use Rattle.torn_store.specs.Writing.{MayWrite, WritesAll, StopsIn, Row, RowCut, replay_row, commit_row};
 ghost use Rattle.torn_store.specs.Writing.{mending_row, repair_row, WroteFew, StoppedFew, TurnedOn, LostAt};
 
 use crate::convert::Convert;
@@ -25,12 +25,9 @@ const OPEN: [u8; 64] = [1; 64];
 
 /// Writes home pages, and closes the gate behind them.
 fn replay<P: Pages>(pages: &mut P, blocks: &[Block]) -> Result<(), Gone>
-    requires on { (P.memory pages.old).on ≡ true }
-    requires within { All (λ block. block.page < 64) blocks.now }
-    ensures all { OnOk result
-        (WritesAll (P.memory pages.old) (replay_row blocks.now) (P.memory pages.new)) }
-    ensures stops { OnErr result
-        (StopsIn (P.memory pages.old) (replay_row blocks.now) (P.memory pages.new)) }
+    requires may { MayWrite (P.memory pages.old) blocks.now }
+    ensures all { OnOk result (WritesAll (P.memory pages.old) (replay_row blocks.now) (P.memory pages.new)) }
+    ensures stops { OnErr result (StopsIn (P.memory pages.old) (replay_row blocks.now) (P.memory pages.new)) }
 {
     write_home(pages, blocks)?;
     pages.write(GATE, &CLOSED)
@@ -38,13 +35,9 @@ fn replay<P: Pages>(pages: &mut P, blocks: &[Block]) -> Result<(), Gone>
 
 /// Writes blocks into the journal, names them in the header, opens the gate and replays them.
 fn write_row<P: Pages>(pages: &mut P, blocks: &[Block]) -> Result<(), Gone>
-    requires on { (P.memory pages.old).on ≡ true }
-    requires few { length blocks.now ≤ 17 }
-    requires within { All (λ block. block.page < 64) blocks.now }
-    ensures all { OnOk result
-        (WritesAll (P.memory pages.old) (commit_row blocks.now) (P.memory pages.new)) }
-    ensures stops { OnErr result
-        (StopsIn (P.memory pages.old) (commit_row blocks.now) (P.memory pages.new)) }
+    requires may { MayWrite (P.memory pages.old) blocks.now }
+    ensures all { OnOk result (WritesAll (P.memory pages.old) (commit_row blocks.now) (P.memory pages.new)) }
+    ensures stops { OnErr result (StopsIn (P.memory pages.old) (commit_row blocks.now) (P.memory pages.new)) }
 {
     write_journal(pages, blocks)?;
     pages.write(HEADER, &header_of(blocks))?;
@@ -58,10 +51,8 @@ fn write_state<P: Pages>(pages: &mut P, old: &[u8], new: &[u8]) -> Result<(), Go
     requires on { (P.memory pages.old).on ≡ true }
     requires short { length old.now ≤ 1024 }
     requires fits { length new.now ≤ 1024 }
-    ensures all { OnOk result
-        (WritesAll (P.memory pages.old) (commit_row (changed old.now new.now)) (P.memory pages.new)) }
-    ensures stops { OnErr result
-        (StopsIn (P.memory pages.old) (commit_row (changed old.now new.now)) (P.memory pages.new)) }
+    ensures all { OnOk result (WritesAll (P.memory pages.old) (commit_row (changed_pages old.now new.now)) (P.memory pages.new)) }
+    ensures stops { OnErr result (StopsIn (P.memory pages.old) (commit_row (changed_pages old.now new.now)) (P.memory pages.new)) }
 {
     let mut known = ArrayVec::new();
     framed(old, &mut known);
@@ -77,13 +68,11 @@ pub fn commit_state<P: Pages>(pages: &mut P, old: &[u8], new: &[u8]) -> Result<(
     requires ready { IsReady (P.memory pages.old) old.now }
     requires fits { length new.now ≤ 1024 }
     ensures ready { OnOk result (IsReady (P.memory pages.new) new.now) }
-    ensures row { OnOk result
-        (Row (marked (P.memory pages.old)) (P.memory pages.new) (commit_writes old.now new.now)) }
+    ensures row { OnOk result (Row (commit_marked (P.memory pages.old)) (P.memory pages.new) (commit_writes old.now new.now)) }
     ensures lost { OnErr result (Between recover (P.memory pages.new).cells old.now new.now) }
-    ensures before { OnErr result (next_write_cut (marked (P.memory pages.old)) ≡ CutBefore
+    ensures before { OnErr result (next_write_cut (commit_marked (P.memory pages.old)) ≡ CutBefore
         → (P.memory pages.new).cells ≡ (P.memory pages.old).cells) }
-    ensures cut { OnErr result
-        (RowCut (marked (P.memory pages.old)) (P.memory pages.new) (commit_writes old.now new.now)) }
+    ensures cut { OnErr result (RowCut (commit_marked (P.memory pages.old)) (P.memory pages.new) (commit_writes old.now new.now)) }
 {
     pages.mark();
     write_state(pages, old, new)
@@ -93,12 +82,8 @@ pub fn commit_state<P: Pages>(pages: &mut P, old: &[u8], new: &[u8]) -> Result<(
 fn replay_shown<P: Pages>(pages: &mut P) -> Result<(), Gone>
     requires on { IsOn (P.memory pages.old) }
     requires header { IsSome (numbers_in (slice_index_or (P.memory pages.old).shown 18 [])) }
-    ensures all { OnOk result (WritesAll (P.memory pages.old)
-        (mending_row 1 (numbers_in (slice_index_or (P.memory pages.old).shown 18 []))
-        (P.memory pages.old).shown) (P.memory pages.new)) }
-    ensures stops { OnErr result (StopsIn (P.memory pages.old)
-        (mending_row 1 (numbers_in (slice_index_or (P.memory pages.old).shown 18 []))
-        (P.memory pages.old).shown) (P.memory pages.new)) }
+    ensures all { OnOk result (WritesAll (P.memory pages.old) (mending_row 1 (numbers_in (slice_index_or (P.memory pages.old).shown 18 [])) (P.memory pages.old).shown) (P.memory pages.new)) }
+    ensures stops { OnErr result (StopsIn (P.memory pages.old) (mending_row 1 (numbers_in (slice_index_or (P.memory pages.old).shown 18 [])) (P.memory pages.old).shown) (P.memory pages.new)) }
 {
     let numbers = numbers_of(&pages.read(HEADER));
     let blocks = read_journal(pages, numbers.as_slice());
@@ -110,10 +95,8 @@ fn close_gate<P: Pages>(pages: &mut P) -> Result<(), Gone>
     requires on { IsOn (P.memory pages.old) }
     requires header { lowest (P.memory pages.old).shown ≡ 1
         → IsSome (numbers_in (slice_index_or (P.memory pages.old).shown 18 [])) }
-    ensures all { OnOk result (WritesAll (P.memory pages.old)
-        (repair_row (P.memory pages.old).shown) (P.memory pages.new)) }
-    ensures stops { OnErr result (StopsIn (P.memory pages.old)
-        (repair_row (P.memory pages.old).shown) (P.memory pages.new)) }
+    ensures all { OnOk result (WritesAll (P.memory pages.old) (repair_row (P.memory pages.old).shown) (P.memory pages.new)) }
+    ensures stops { OnErr result (StopsIn (P.memory pages.old) (repair_row (P.memory pages.old).shown) (P.memory pages.new)) }
 {
     let bit = pages.read(GATE)[0] % 2;
     pages.write(GATE, &[bit; 64])?;
@@ -129,10 +112,8 @@ fn find_state<P: Pages>(pages: &mut P) -> Result<State, Gone>
     requires among { (states : List (List ℕ)) × Among recover (P.memory pages.old).cells states }
     ensures found { IfOk result (λ state. recover (P.memory pages.old).shown ≡ Some state.items) }
     ensures ready { IfOk result (λ state. IsReady (P.memory pages.new) state.items) }
-    ensures all { OnOk result (WritesAll (P.memory pages.old)
-        (repair_row (P.memory pages.old).shown) (P.memory pages.new)) }
-    ensures stops { OnErr result (StopsIn (P.memory pages.old)
-        (repair_row (P.memory pages.old).shown) (P.memory pages.new)) }
+    ensures all { OnOk result (WritesAll (P.memory pages.old) (repair_row (P.memory pages.old).shown) (P.memory pages.new)) }
+    ensures stops { OnErr result (StopsIn (P.memory pages.old) (repair_row (P.memory pages.old).shown) (P.memory pages.new)) }
 {
     close_gate(pages)?;
     Ok(read_home(pages))
@@ -172,8 +153,7 @@ pub fn repair_with<P: Pages, C: Convert>(pages: &mut P, convert: &C) -> Result<S
     ensures ready { IfOk result (λ state. IsReady (P.memory pages.new) state.items) }
     ensures turned_on { OnOk result (TurnedOn (P.memory pages.old) (P.memory pages.new)) }
 
-    ensures lost { OnErr result ((states : List (List ℕ))
-        → Among recover (P.memory pages.old).cells states
+    ensures lost { OnErr result ((states : List (List ℕ)) → Among recover (P.memory pages.old).cells states
         → Among recover (P.memory pages.new).cells
         (states ++ map (converted (C.means convert.now)) states)) }
     ensures gone { OnErr result (LostAt (P.memory pages.old) (P.memory pages.new)) }
@@ -185,6 +165,7 @@ pub fn repair_with<P: Pages, C: Convert>(pages: &mut P, convert: &C) -> Result<S
     Ok(state)
 }
 
+/// Writes a first state to pages that were turned on for it, and releases it.
 fn write_first<P: Pages>(pages: &mut P, first: &[u8]) -> Result<(), Gone>
     requires on { IsOn (P.memory pages.old) }
     requires begun { (P.memory pages.old).writes ≡ 0 }
@@ -205,9 +186,7 @@ fn write_first<P: Pages>(pages: &mut P, first: &[u8]) -> Result<(), Gone>
 
 /// Writes the first state to pages on which no tear is planned.
 pub fn prepare<P: Pages>(pages: &mut P, first: &[u8])
-    requires off { (P.memory pages.old).on ≡ false }
-    requires plan { (P.memory pages.old).plan ≡ None }
-    requires fits { length first.now ≤ 1024 }
+    requires may { MayFormat (P.memory pages.old) first.now }
     ensures ready { IsReady (P.memory pages.new) first.now }
     ensures commit { (P.memory pages.new).commit ≡ 0 }
     ensures plan { (P.memory pages.new).plan ≡ None }

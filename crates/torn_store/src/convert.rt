@@ -1,5 +1,5 @@
 //! A change of the state when its pages are turned on.
-ghost use Rattle.std.specs.Prelude.{◌≡◌, ◌≤◌, ℕ, List, [], length, Some, None, false, IsTrue};
+ghost use Rattle.std.specs.Prelude.{◌≡◌, ◌≤◌, ℕ, List, length, Some, None, false, IsTrue};
 ghost use Rattle.std.specs.declared.option.Option.{Option};
 
 use arrayvec::ArrayVec;
@@ -9,11 +9,10 @@ pub trait Convert {
     /// The new state, or none where the old one stays.
     ghost means: { Self → List ℕ → Option (List ℕ) };
 
-    /// Puts the new state into `out`, which is empty, and gives `true`; or gives `false`, and the
+    /// Puts the new state in the place of what `out` held, and gives `true`; or gives `false`, and the
     /// old state stays, whatever is in `out`.
     fn convert(&self, old: &[u8], out: &mut ArrayVec<u8, 1024>) -> bool
         requires fits { length old.now ≤ 1024 }
-        requires empty { out.old.items ≡ [] }
         ensures changes { IsTrue result → means self.now old.now ≡ Some out.new.items }
         ensures stays { result ≡ false → means self.now old.now ≡ None };
 }

@@ -1,9 +1,9 @@
 //! The pages of the home and the journal, read and written one after another.
-ghost use Rattle.std.specs.Prelude.{◌≡◌, ◌<◌, ◌≤◌, ◌+◌, ◌*◌, ◌/◌, All, length, take, drop, slice_index, true, Some, IsSome};
+ghost use Rattle.std.specs.Prelude.{◌≡◌, ◌≤◌, ◌+◌, ◌*◌, ◌/◌, length, take, drop, slice_index, true, Some, IsSome};
 ghost use Rattle.std.specs.Prelude.{OnOk, OnErr};
-ghost use Rattle.torn_store.specs.Layout.{joined, paired, recover_at};
+ghost use Rattle.torn_store.specs.Layout.{bytes_of_pages, paired, recover_at};
 ghost use Rattle.torn_store.specs.Store.{IsOn};
-ghost use Rattle.torn_store.specs.Writing.{WritesAll, StopsIn, journaled};
+ghost use Rattle.torn_store.specs.Writing.{MayWrite, WritesAll, StopsIn, journaled};
 
 use crate::layout::{Block, HOME, JOURNAL, State, state_of};
 use arrayvec::ArrayVec;
@@ -11,8 +11,7 @@ use emv_ports::{Gone, Pages};
 
 /// Writes home pages.
 pub fn write_home<P: Pages>(pages: &mut P, blocks: &[Block]) -> Result<(), Gone>
-    requires on { (P.memory pages.old).on ≡ true }
-    requires within { All (λ block. block.page < 64) blocks.now }
+    requires may { MayWrite (P.memory pages.old) blocks.now }
     ensures on { OnOk result ((P.memory pages.new).on ≡ true) }
     ensures all { OnOk result (WritesAll (P.memory pages.old) blocks.now (P.memory pages.new)) }
     ensures stops { OnErr result (StopsIn (P.memory pages.old) blocks.now (P.memory pages.new)) }
@@ -25,13 +24,10 @@ pub fn write_home<P: Pages>(pages: &mut P, blocks: &[Block]) -> Result<(), Gone>
 
 /// Writes the bytes of the blocks on the pages of the journal, from the first on.
 pub fn write_journal<P: Pages>(pages: &mut P, blocks: &[Block]) -> Result<(), Gone>
-    requires on { (P.memory pages.old).on ≡ true }
-    requires few { length blocks.now ≤ 17 }
+    requires may { MayWrite (P.memory pages.old) blocks.now }
     ensures on { OnOk result ((P.memory pages.new).on ≡ true) }
-    ensures all { OnOk result
-        (WritesAll (P.memory pages.old) (journaled 19 blocks.now) (P.memory pages.new)) }
-    ensures stops { OnErr result
-        (StopsIn (P.memory pages.old) (journaled 19 blocks.now) (P.memory pages.new)) }
+    ensures all { OnOk result (WritesAll (P.memory pages.old) (journaled 19 blocks.now) (P.memory pages.new)) }
+    ensures stops { OnErr result (StopsIn (P.memory pages.old) (journaled 19 blocks.now) (P.memory pages.new)) }
 {
     for (i, block) in blocks.iter().enumerate() {
         pages.write(JOURNAL + i as u8, &block.bytes)?;
@@ -72,7 +68,7 @@ fn read_pages<P: Pages>(pages: &P, count: u8, home: &mut [u8; 1088])
     requires count { count ≤ 17 }
     ensures long { length home.new ≡ 1088 }
     ensures front { take (64 * count) home.new
-        ≡ joined (take count (take 17 (drop 1 (P.memory pages.now).shown))) }
+        ≡ bytes_of_pages (take count (take 17 (drop 1 (P.memory pages.now).shown))) }
 {
     for i in 0..count {
         let at = 64 * i as usize;

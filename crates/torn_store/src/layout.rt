@@ -1,6 +1,6 @@
 //! The bytes of the home, the header and the journal.
 ghost use Rattle.std.specs.Prelude.{◌≡◌, ◌≤◌, ◌*◌, ◌∷◌, map, length, drop, Some, IsSome};
-ghost use Rattle.torn_store.specs.Layout.{framed, part_of, filled, changed_in, numbers_in, state_in};
+ghost use Rattle.torn_store.specs.Layout.{framed, page_part, padded_page, changed_in, numbers_in, state_in};
 ghost use Rattle.torn_store.specs.Writing.{header};
 
 use arrayvec::ArrayVec;
@@ -61,7 +61,7 @@ fn from_page(bytes: &[u8], place: usize) -> &[u8]
 /// The part of a frame in a home page.
 fn part_of(frame: &[u8], place: usize) -> &[u8]
     requires { place ≤ 17 }
-    ensures part { result.now ≡ part_of frame.now place }
+    ensures part { result.now ≡ page_part frame.now place }
     ensures short { length result.now ≤ 64 }
 {
     let rest = from_page(frame, place);
@@ -71,7 +71,7 @@ fn part_of(frame: &[u8], place: usize) -> &[u8]
 /// A page that begins with this part.
 fn filled(part: &[u8]) -> [u8; 64]
     requires { length part.now ≤ 64 }
-    ensures { result ≡ filled part.now }
+    ensures { result ≡ padded_page part.now }
 {
     let mut page = [0; 64];
     page[..part.len()].copy_from_slice(part);

@@ -2,13 +2,13 @@
 //! the new one.
 #![tactic(auto)]
 
+mod by_value;
 mod commits;
 mod convert;
 mod journal;
 mod layout;
 mod place;
-mod store;
 
+pub use by_value::{Lost, Settled, Store};
 pub use convert::Convert;
-pub use place::{Place, Written};
-pub use store::{Lost, Settled, Store};
+pub use place::{StorePlace, Written};

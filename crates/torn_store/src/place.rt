@@ -1,12 +1,12 @@
 //! A store in its place, whose calls change it there.
-ghost use Rattle.std.specs.Prelude.{◌≡◌, ◌≤◌, ◌⊎◌, ◌++◌, ℕ, List, length, map, Contains, None, true, false};
+ghost use Rattle.std.specs.Prelude.{◌≡◌, ◌≤◌, ◌⊎◌, ◌++◌, ℕ, List, length, map, Contains, true, false};
 ghost use Rattle.std.specs.Prelude.{IfOk, OnOk, OnErr, IsTrue};
-ghost use Rattle.emv_ports.specs.Cut.{is_named, is_plan};
+ghost use Rattle.emv_ports.specs.Cut.{is_plan};
 ghost use Rattle.emv_ports.specs.Memory.{planned, powered_off};
 ghost use Rattle.torn_store.specs.Conversion.{converted};
 ghost use Rattle.torn_store.specs.Layout.{recover};
 ghost use Rattle.torn_store.specs.Recovery.{Holds, Among, Between};
-ghost use Rattle.torn_store.specs.Store.{IsGate, IsGone};
+ghost use Rattle.torn_store.specs.Writing.{LostAt};
 
 use crate::commits::{commit_state, prepare, repair_with};
 use crate::convert::{Convert, Keep};
@@ -16,13 +16,13 @@ use std::marker::Model;
 
 /// The place of a store: its pages, on or off, and the state that they stand for while they are on.
 #[derive(Drop)]
-pub struct Place<P: Pages> {
+pub struct StorePlace<P: Pages> {
     pages: P,
     on: bool,
     state: State,
 }
 
-impl<P: Pages> Model for Place<P> {
+impl<P: Pages> Model for StorePlace<P> {
     ghost use Rattle.std.specs.Prelude.{◌≡◌};
     ghost use Rattle.torn_store.specs.Store.{Stored};
     ghost use Rattle.torn_store.specs.Placed.{IsPlaced};
@@ -37,20 +37,20 @@ impl<P: Pages> Model for Place<P> {
 /// A commit that is written and not yet released. It can't be dropped: only `release` spends it. Until then the
 /// place is lent to it.
 pub struct Written<'p, P: Pages> {
-    place: &'p mut Place<P>,
+    place: &'p mut StorePlace<P>,
 }
 
-impl<P: Pages> Place<P> {
+impl<P: Pages> StorePlace<P> {
     ghost use Rattle.std.specs.Borrow.{sem};
     ghost use Rattle.torn_store.specs.Lending.{place_rests};
-    ghost use Rattle.torn_store.specs.Placed.{Commits, CommitTorn, Releases, ReleaseTorn, TurnedOnce};
+    ghost use Rattle.torn_store.specs.Placed.{MayFormat, MayCommit, FormatsStore, OpensStore, Commits, CommitTorn, Releases, ReleaseTorn};
 
     /// The place of pages that are off.
-    pub fn new(pages: P) -> Place<P>
+    pub fn new(pages: P) -> StorePlace<P>
         requires { (P.memory pages).on ≡ false }
         ensures { result.memory ≡ P.memory pages }
     {
-        Place {
+        StorePlace {
             pages,
             on: false,
             state: State::new(),
@@ -59,18 +59,8 @@ impl<P: Pages> Place<P> {
 
     /// Writes a first state to pages that are off and have no plan. They are turned on once, and stay on.
     pub fn format(&mut self, first: &[u8])
-        requires off { self.old.memory.on ≡ false }
-        requires plan { self.old.memory.plan ≡ None }
-        requires fits { length first.now ≤ 1024 }
-
-        ensures on { self.new.memory.on ≡ true }
-        ensures state { self.new.state ≡ first.now }
-        ensures holds { Holds recover self.new.memory.cells first.now }
-        ensures gate { IsGate self.new.memory.cells }
-        ensures plan { self.new.memory.plan ≡ None }
-        ensures losses { self.new.memory.losses ≡ self.old.memory.losses }
-        ensures commit { self.new.memory.commit ≡ 0 }
-        ensures once { TurnedOnce self.old.memory self.new.memory }
+        requires { MayFormat self.old.memory first.now }
+        ensures { FormatsStore self.old.memory first.now self.new }
     {
         prepare(&mut self.pages, first);
         self.on = true;
@@ -89,26 +79,14 @@ impl<P: Pages> Place<P> {
     /// As `power_up_with`, and leaves the state as it is.
     pub fn power_up(&mut self) -> Result<(), Gone>
         requires off { self.old.memory.on ≡ false }
-        requires between { (before : List ℕ) × (after : List ℕ)
-            × Between recover self.old.memory.cells before after }
+        requires between { (before : List ℕ) × (after : List ℕ) × Between recover self.old.memory.cells before after }
 
-        ensures found { OnOk result ((before after : List ℕ)
-            → Between recover self.old.memory.cells before after
+        ensures found { OnOk result ((before after : List ℕ) → Between recover self.old.memory.cells before after
             → (self.new.state ≡ before) ⊎ (self.new.state ≡ after)) }
-        ensures on { OnOk result (self.new.memory.on ≡ true) }
-        ensures holds { OnOk result (Holds recover self.new.memory.cells self.new.state) }
-        ensures gate { OnOk result (IsGate self.new.memory.cells) }
-        ensures spared { OnOk result (is_named self.old.memory.plan 0 ≡ false) }
-        ensures wrote { OnOk result (1 ≤ self.new.memory.writes) }
-        ensures commit { OnOk result (self.new.memory.commit ≡ 0) }
-        ensures plan { OnOk result (self.new.memory.plan ≡ self.old.memory.plan) }
-        ensures losses { OnOk result (self.new.memory.losses ≡ self.old.memory.losses) }
-
-        ensures lost { OnErr result ((before after : List ℕ)
-            → Between recover self.old.memory.cells before after
+        ensures opens { OnOk result (OpensStore self.old.memory self.new) }
+        ensures lost { OnErr result ((before after : List ℕ) → Between recover self.old.memory.cells before after
             → Between recover self.new.memory.cells before after) }
-        ensures cut { OnErr result (is_named self.old.memory.plan 0 ≡ true) }
-        ensures gone { OnErr result (IsGone self.old.memory self.new.memory) }
+        ensures gone { OnErr result (LostAt self.old.memory self.new.memory) }
     {
         self.power_up_with(&Keep)
     }
@@ -121,24 +99,13 @@ impl<P: Pages> Place<P> {
         requires off { self.old.memory.on ≡ false }
         requires among { (states : List (List ℕ)) × Among recover self.old.memory.cells states }
 
-        ensures found { OnOk result ((states : List (List ℕ))
-            → Among recover self.old.memory.cells states
+        ensures found { OnOk result ((states : List (List ℕ)) → Among recover self.old.memory.cells states
             → Contains (map (converted (C.means convert.now)) states) self.new.state) }
-        ensures on { OnOk result (self.new.memory.on ≡ true) }
-        ensures holds { OnOk result (Holds recover self.new.memory.cells self.new.state) }
-        ensures gate { OnOk result (IsGate self.new.memory.cells) }
-        ensures spared { OnOk result (is_named self.old.memory.plan 0 ≡ false) }
-        ensures wrote { OnOk result (1 ≤ self.new.memory.writes) }
-        ensures commit { OnOk result (self.new.memory.commit ≡ 0) }
-        ensures plan { OnOk result (self.new.memory.plan ≡ self.old.memory.plan) }
-        ensures losses { OnOk result (self.new.memory.losses ≡ self.old.memory.losses) }
-
-        ensures lost { OnErr result ((states : List (List ℕ))
-            → Among recover self.old.memory.cells states
+        ensures opens { OnOk result (OpensStore self.old.memory self.new) }
+        ensures lost { OnErr result ((states : List (List ℕ)) → Among recover self.old.memory.cells states
             → Among recover self.new.memory.cells
             (states ++ map (converted (C.means convert.now)) states)) }
-        ensures cut { OnErr result (is_named self.old.memory.plan 0 ≡ true) }
-        ensures gone { OnErr result (IsGone self.old.memory self.new.memory) }
+        ensures gone { OnErr result (LostAt self.old.memory self.new.memory) }
     {
         match repair_with(&mut self.pages, convert) {
             Ok(state) => {
@@ -171,8 +138,7 @@ impl<P: Pages> Place<P> {
     /// `Gone` comes exactly where the plan cuts one of the commit's writes. Then the pages are between the old
     /// state and the new one, and stand for the old one where the first write was cut before it began.
     pub fn commit(&mut self, new: &[u8]) -> Result<Written<'_, P>, Gone>
-        requires on { self.old.memory.on ≡ true }
-        requires fits { length new.now ≤ 1024 }
+        requires may { MayCommit self.old new.now }
         ensures* rests { sem 𝓛 (place_rests P.row P.Pages self.entry new.now result) }
         ensures same_reference { IfOk result (λ written. written.place.ghost_name ≡ self.entry.ghost_name) }
         ensures commits { IfOk result (λ written. Commits self.old new.now written.place.now) }
@@ -185,10 +151,9 @@ impl<P: Pages> Place<P> {
 
     /// Writes a new state, and doesn't release it.
     pub(crate) fn write(&mut self, new: &[u8]) -> Result<(), Gone>
-        requires on { self.old.memory.on ≡ true }
-        requires fits { length new.now ≤ 1024 }
+        requires may { MayCommit self.old new.now }
         ensures commits { OnOk result (Commits self.old new.now self.new) }
-        ensures torn { OnErr result (CommitTorn self.old new.now self.new) }
+        ensures torn { OnErr result (CommitTorn self.old new.now self.new.memory) }
     {
         match commit_state(&mut self.pages, self.state.as_slice(), new) {
             Ok(()) => {
@@ -206,7 +171,7 @@ impl<P: Pages> Place<P> {
     pub(crate) fn settle(&mut self) -> Result<(), Gone>
         requires on { self.old.memory.on ≡ true }
         ensures released { OnOk result (Releases self.old self.new) }
-        ensures torn { OnErr result (ReleaseTorn self.old self.new) }
+        ensures torn { OnErr result (ReleaseTorn self.old self.new.memory) }
     {
         match self.pages.release() {
             Ok(()) => Ok(()),
@@ -231,7 +196,7 @@ impl<P: Pages> Place<P> {
     pub fn into_pages(self) -> P
         ensures { P.memory result ≡ self.memory }
     {
-        let Place { pages, .. } = self;
+        let StorePlace { pages, .. } = self;
         pages
     }
 }
@@ -245,7 +210,7 @@ impl<P: Pages> Written<'_, P> {
     pub fn release(self) -> Result<(), Gone>
         requires on { self.place.now.memory.on ≡ true }
         ensures released { OnOk result (Releases self.entry.place.now self.exit.0.now) }
-        ensures torn { OnErr result (ReleaseTorn self.entry.place.now self.exit.0.now) }
+        ensures torn { OnErr result (ReleaseTorn self.entry.place.now self.exit.0.now.memory) }
     {
         let Written { place } = self;
         place.settle()

@@ -1,16 +1,16 @@
 -- The trace that a terminal's dialogue has on the card's and the host's replies.
 use Rattle.std.specs.Prelude.{ℕ, Bool, true, false, List, [], ◌∷◌, ◌++◌, Option, Some, None, option_map, option_to_list, if◌then◌else◌}
 use Rattle.std.specs.List.{flat_map}
-use Rattle.kernel.specs.Course.{Standing}
+use Rattle.kernel.specs.StepsInTurn.{Standing}
 use Rattle.kernel.specs.Dialogue.{dialogue}
 use Rattle.kernel.specs.Ended.{EndData, end_with}
 use Rattle.kernel.specs.Reply.{Reply, Deed}
 use Rattle.kernel.specs.Reply as said
-use Rattle.kernel.specs.Shown.{EndShown, shown}
+use Rattle.kernel.specs.EndShown.{EndShown, shown_end}
 use Rattle.report_text.specs.Text.{parts_text}
 use Rattle.report_text.specs.declared.line.EndParts.{EndParts}
-use Rattle.terminal_state.specs.Marks.{Mark, moment, latest, card_of}
-use Rattle.terminal_state.specs.Terminal.{Deal}
+use Rattle.terminal_state.specs.StepResults.{StepResult, state_so_far, latest, sets_card}
+use Rattle.terminal_state.specs.Terminal.{Outset}
 use Rattle.trace_check.specs.declared.entry.Entry.{Entry}
 use Rattle.trace_check.specs.declared.entry.Entry.TheVariants.{ToCard, CardSaid, CardGone, ToHost, HostSaid, HostSilent, End}
 
@@ -31,18 +31,18 @@ abbrev pub end_text : EndShown → List ℕ
 end_text shown = parts_text (parts_of shown)
 
 -- a terminal's log of earlier purchases is empty to a trace
-abbrev pub reply_in : Entry → Option Reply
-reply_in (ToCard command) = None
-reply_in (CardSaid answer) = Some (said.CardSaid answer [])
-reply_in CardGone = Some said.CardGone
-reply_in (ToHost message) = None
-reply_in (HostSaid reply) = Some (said.HostSaid reply)
-reply_in HostSilent = Some said.HostSilent
-reply_in (End text) = None
+abbrev pub reply_of_entry : Entry → Option Reply
+reply_of_entry (ToCard command) = None
+reply_of_entry (CardSaid answer) = Some (said.CardSaid answer [])
+reply_of_entry CardGone = Some said.CardGone
+reply_of_entry (ToHost message) = None
+reply_of_entry (HostSaid reply) = Some (said.HostSaid reply)
+reply_of_entry HostSilent = Some said.HostSilent
+reply_of_entry (End text) = None
 
 -- the replies of a trace, in their order
 abbrev pub replies_in : List Entry → List Reply
-replies_in entries = flat_map (λ entry. option_to_list (reply_in entry)) entries
+replies_in entries = flat_map (λ entry. option_to_list (reply_of_entry entry)) entries
 
 -- a reply as an entry
 abbrev pub entry_of_reply : Reply → Entry
@@ -70,22 +70,22 @@ is_awaited (said.ToHost message) reply = of_host reply
 is_awaited (said.Over ending) reply = false
 
 -- what the terminal does next, as an entry
-abbrev pub entry_of_deed : Deal → List Mark → Deed → Entry
-entry_of_deed deal marks (said.ToCard command) = ToCard command
-entry_of_deed deal marks (said.ToHost message) = ToHost message
-entry_of_deed deal marks (said.Over ending) = End (end_text (shown (end_with deal ending (latest card_of None marks) (moment marks))))
+abbrev pub entry_of_deed : Outset → List StepResult → Deed → Entry
+entry_of_deed outset steps_done (said.ToCard command) = ToCard command
+entry_of_deed outset steps_done (said.ToHost message) = ToHost message
+entry_of_deed outset steps_done (said.Over ending) = End (end_text (shown_end (end_with outset ending (latest sets_card None steps_done) (state_so_far steps_done))))
 
-abbrev pub entry_at : Deal → Standing Mark → Entry
-entry_at deal standing = entry_of_deed deal standing.marks standing.deed
+abbrev pub entry_of_standing : Outset → Standing StepResult → Entry
+entry_of_standing outset standing = entry_of_deed outset standing.steps_done standing.deed
 
 -- behind these replies: what the terminal does, and each time the reply that comes to it, up to one that it does not
 -- await
-abbrev pub own_behind : Deal → List Reply → List Reply → List Entry
-own_behind deal before [] = entry_at deal (dialogue deal before) ∷ []
-own_behind deal before (reply ∷ later) =
-    entry_at deal (dialogue deal before)
-    ∷ (if is_awaited (dialogue deal before).deed reply then entry_of_reply reply ∷ own_behind deal (before ++ reply ∷ []) later else [])
+abbrev pub own_behind : Outset → List Reply → List Reply → List Entry
+own_behind outset before [] = entry_of_standing outset (dialogue outset before) ∷ []
+own_behind outset before (reply ∷ later) =
+    entry_of_standing outset (dialogue outset before)
+    ∷ (if is_awaited (dialogue outset before).deed reply then entry_of_reply reply ∷ own_behind outset (before ++ reply ∷ []) later else [])
 
 -- the dialogue's own trace on these replies
-abbrev pub own_trace : Deal → List Reply → List Entry
-own_trace deal replies = own_behind deal [] replies
+abbrev pub own_trace : Outset → List Reply → List Entry
+own_trace outset replies = own_behind outset [] replies

@@ -3,9 +3,9 @@ use Rattle.std.specs.Prelude.{◌≡◌, ◌↔◌, ℕ, ◌+◌, ◌<◌, true,
 use Rattle.kernel.specs.Dialogue.{dialogue}
 use Rattle.kernel.specs.Reply.{Reply, Deed}
 use Rattle.kernel.specs.Reply as said
-use Rattle.terminal_state.specs.Terminal.{Deal}
-use Rattle.trace_check.specs.Dialogues.{entry_at, is_awaited, entry_of_reply, reply_in}
-use Rattle.trace_check.specs.Texts.{entry_of, entry_text, IsEntry}
+use Rattle.terminal_state.specs.Terminal.{Outset}
+use Rattle.trace_check.specs.Dialogues.{entry_of_standing, is_awaited, entry_of_reply, reply_of_entry}
+use Rattle.trace_check.specs.Texts.{entry_of_text, entry_text, IsEntry}
 use Rattle.trace_check.specs.Verdicts.{verdict}
 use Rattle.trace_check.specs.declared.compare.Verdict.{Verdict}
 use Rattle.trace_check.specs.declared.compare.Verdict.TheVariants.{Same, Differs}
@@ -13,33 +13,33 @@ use Rattle.trace_check.specs.declared.entry.Entry.{Entry}
 use Rattle.emv_dict.specs.declared.ending.Ending.{Ending}
 
 -- the entries are each ask followed by its reply, and at last the end, and nothing more
-pub data IsDialogue (deal : Deal) : List Reply → List Entry → Type 0 where
-  over : (before : List Reply) (ending : Ending) → (dialogue deal before).deed ≡ said.Over ending
-      → IsDialogue deal before (entry_at deal (dialogue deal before) ∷ [])
-  answered : (before : List Reply) (entry : Entry) (reply : Reply) (entries : List Entry) → reply_in entry ≡ Some reply
-      → is_awaited (dialogue deal before).deed reply ≡ true → IsDialogue deal (before ++ reply ∷ []) entries
-      → IsDialogue deal before (entry_at deal (dialogue deal before) ∷ entry ∷ entries)
+pub data IsDialogue (outset : Outset) : List Reply → List Entry → Type 0 where
+  over : (before : List Reply) (ending : Ending) → (dialogue outset before).deed ≡ said.Over ending
+      → IsDialogue outset before (entry_of_standing outset (dialogue outset before) ∷ [])
+  answered : (before : List Reply) (entry : Entry) (reply : Reply) (entries : List Entry) → reply_of_entry entry ≡ Some reply
+      → is_awaited (dialogue outset before).deed reply ≡ true → IsDialogue outset (before ++ reply ∷ []) entries
+      → IsDialogue outset before (entry_of_standing outset (dialogue outset before) ∷ entry ∷ entries)
 
 -- a trace is the same exactly where it is the dialogue's
 abbrev pub SameIsDialogue : Type 0
-SameIsDialogue = (deal : Deal) (entries : List Entry) → (verdict deal entries ≡ Same) ↔ IsDialogue deal [] entries
+SameIsDialogue = (outset : Outset) (entries : List Entry) → (verdict outset entries ≡ Same) ↔ IsDialogue outset [] entries
 
 -- a front of the trace of a dialogue
-abbrev pub IsFront : Deal → List Entry → Type 0
-IsFront deal entries = (more : List Entry) × IsDialogue deal [] (entries ++ more)
+abbrev pub IsFront : Outset → List Entry → Type 0
+IsFront outset entries = (more : List Entry) × IsDialogue outset [] (entries ++ more)
 
 -- the entry that differs is the least one: the entries before it are a front of a dialogue's trace, and with it they
 -- are none, or it lacks
-pub record IsLeast (deal : Deal) (entries : List Entry) (at : ℕ) : Type 0 where
-  pub front : IsFront deal (take at entries)
-  pub least : at < length entries → IsFront deal (take (at + 1) entries) → ⊥
+pub record IsLeast (outset : Outset) (entries : List Entry) (at : ℕ) : Type 0 where
+  pub front : IsFront outset (take at entries)
+  pub least : at < length entries → IsFront outset (take (at + 1) entries) → ⊥
   pub within : at < length entries + 1
 
 abbrev pub DiffersIsLeast : Type 0
-DiffersIsLeast = (deal : Deal) (entries : List Entry) (at : ℕ) → verdict deal entries ≡ Differs at → IsLeast deal entries at
+DiffersIsLeast = (outset : Outset) (entries : List Entry) (at : ℕ) → verdict outset entries ≡ Differs at → IsLeast outset entries at
 
 -- an entry has one text, and a text that is an entry is its text
 abbrev pub EntriesAreSpelled : Type 0
 EntriesAreSpelled =
-    ((text : List ℕ) (entry : Entry) → entry_of text ≡ Some entry → (text ≡ entry_text entry) × IsEntry entry)
-    × ((entry : Entry) → IsEntry entry → entry_of (entry_text entry) ≡ Some entry)
+    ((text : List ℕ) (entry : Entry) → entry_of_text text ≡ Some entry → (text ≡ entry_text entry) × IsEntry entry)
+    × ((entry : Entry) → IsEntry entry → entry_of_text (entry_text entry) ≡ Some entry)

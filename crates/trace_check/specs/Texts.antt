@@ -13,15 +13,15 @@ use Rattle.trace_check.specs.declared.entry.Form.TheVariants as form
 abbrev pub behind : List ℕ → List ℕ → Option (List ℕ)
 behind mark text = (if bytes_eq (take (length mark) text) mark then Some (drop (length mark) text) else None)
 
-abbrev pub decoded : Result (List ℕ) FromHexError → List ℕ
-decoded (Ok bytes) = bytes
-decoded (Err fault) = []
+abbrev pub decoded_or_none : Result (List ℕ) FromHexError → List ℕ
+decoded_or_none (Ok bytes) = bytes
+decoded_or_none (Err fault) = []
 
 -- the bytes, at most so many, that a line shows by this text: what it spells, shown again, is the text
 unfoldable pub bytes_shown : ℕ → List ℕ → Option (List ℕ)
 bytes_shown most text =
-    if nat_le (length (decoded (decode_of text))) most && bytes_eq (hex_or_dash (decoded (decode_of text))) text
-    then Some (decoded (decode_of text)) else None
+    if nat_le (length (decoded_or_none (decode_of text))) most && bytes_eq (hex_or_dash (decoded_or_none (decode_of text))) text
+    then Some (decoded_or_none (decode_of text)) else None
 
 -- a command, an answer, and a message of either side
 abbrev pub most_in : Form → ℕ
@@ -30,14 +30,14 @@ most_in form.CardSaid = 258
 most_in form.ToHost = 2048
 most_in form.HostSaid = 2048
 
-abbrev pub entry_with : Form → List ℕ → Entry
-entry_with form.ToCard bytes = ToCard bytes
-entry_with form.CardSaid bytes = CardSaid bytes
-entry_with form.ToHost bytes = ToHost bytes
-entry_with form.HostSaid bytes = HostSaid bytes
+abbrev pub entry_of_form : Form → List ℕ → Entry
+entry_of_form form.ToCard bytes = ToCard bytes
+entry_of_form form.CardSaid bytes = CardSaid bytes
+entry_of_form form.ToHost bytes = ToHost bytes
+entry_of_form form.HostSaid bytes = HostSaid bytes
 
 abbrev pub shown_in : Form → List ℕ → Option Entry
-shown_in form shown = option_map (entry_with form) (bytes_shown (most_in form) shown)
+shown_in form shown = option_map (entry_of_form form) (bytes_shown (most_in form) shown)
 
 -- what stands behind a mark, where it does
 abbrev pub if_behind : {A : Type 0} → Option (List ℕ) → (List ℕ → A) → A → A
@@ -52,8 +52,8 @@ with_bytes text =
     (if_behind (behind (codes "host < ") text) (shown_in form.HostSaid) None)))
 
 -- the entry that a text is
-unfoldable pub entry_of : List ℕ → Option Entry
-entry_of text =
+unfoldable pub entry_of_text : List ℕ → Option Entry
+entry_of_text text =
     if bytes_eq text (codes "< gone") then Some CardGone
     else if bytes_eq text (codes "host < none") then Some HostSilent
     else if_behind (behind (codes "end ") text) (λ rest. Some (End rest)) (with_bytes text)

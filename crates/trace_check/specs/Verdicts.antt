@@ -3,7 +3,7 @@ use Rattle.std.specs.Prelude.{ℕ, ◌+◌, Bool, true, false, List, [], ◌∷�
 use Rattle.std.specs.Str.{bytes_eq}
 use Rattle.emv_dict.specs.Views.{SettingsData}
 use Rattle.scenario_lanes.specs.declared.plan.Planned.{Planned}
-use Rattle.terminal_state.specs.Terminal.{Deal}
+use Rattle.terminal_state.specs.Terminal.{Outset}
 use Rattle.trace_check.specs.Dialogues.{replies_in, own_trace}
 use Rattle.trace_check.specs.Document.{TraceData}
 use Rattle.trace_check.specs.declared.compare.Verdict.{Verdict}
@@ -21,14 +21,14 @@ same_entry HostSilent HostSilent = true
 same_entry (End a) (End b) = bytes_eq a b
 same_entry a b = false
 
-abbrev pub is_end : Entry → Bool
-is_end (End text) = true
-is_end other = false
+abbrev pub is_end_entry : Entry → Bool
+is_end_entry (End text) = true
+is_end_entry other = false
 
 -- a trace that is whole ends with an end
 abbrev pub is_whole : List Entry → Bool
 is_whole [] = false
-is_whole (entry ∷ []) = is_end entry
+is_whole (entry ∷ []) = is_end_entry entry
 is_whole (entry ∷ next ∷ entries) = is_whole (next ∷ entries)
 
 -- against another trace, from the entry of this number on: the first entry that differs, or that the other has not; a
@@ -39,8 +39,8 @@ against at whole (entry ∷ entries) [] = Differs at
 against at whole (entry ∷ entries) (other ∷ own) = (if same_entry entry other then against (at + 1) whole entries own else Differs at)
 
 -- a trace against the dialogue's own one on its replies
-abbrev pub verdict : Deal → List Entry → Verdict
-verdict deal entries = against 0 (is_whole entries) entries (own_trace deal (replies_in entries))
+abbrev pub verdict : Outset → List Entry → Verdict
+verdict outset entries = against 0 (is_whole entries) entries (own_trace outset (replies_in entries))
 
 -- that of a terminal with one purchase
 abbrev pub verdict_on : SettingsData → List Planned → List Entry → Verdict

@@ -1,10 +1,10 @@
 //! A trace is read against the dialogue of its terminal, an exchange at a time.
 ghost use Rattle.std.specs.Prelude.{◌≡◌, ◌≢◌, ◌≤◌, ◌<◌, ◌∷◌, ◌++◌, [], false, List, Option, Some, None, length, drop};
 ghost use Rattle.kernel.specs.Dialogue.{dialogue};
-ghost use Rattle.kernel.specs.Kernel.{KernelStands, deal_in, next_of};
+ghost use Rattle.kernel.specs.Kernel.{KernelStands, outset_in, kernel_next};
 ghost use Rattle.kernel.specs.Reply.{Reply};
 ghost use Rattle.kernel.specs.declared.kernel.Next.TheVariants as next;
-ghost use Rattle.trace_check.specs.Dialogues.{entry_at};
+ghost use Rattle.trace_check.specs.Dialogues.{entry_of_standing};
 ghost use Rattle.trace_check.specs.Document.{IsTrace};
 ghost use Rattle.trace_check.specs.Loop as loops;
 ghost use Rattle.trace_check.specs.Loop.{Exchanged};
@@ -64,10 +64,10 @@ fn is_message(entry: &Entry, bytes: &[u8]) -> bool
 
 /// Whether an entry is the end of a dialogue that is over.
 fn is_end(kernel: &mut Kernel<'_>, entry: &Entry) -> bool
-    requires over { next_of kernel.old ≡ next.Ended }
+    requires over { kernel_next kernel.old ≡ next.Ended }
     requires fresh { kernel.old.is_spent ≡ false }
     ensures exact { (replies : List Reply) → KernelStands kernel.old replies
-        → result ≡ same_entry entry.now (entry_at (deal_in kernel.old) (dialogue (deal_in kernel.old) replies)) }
+        → result ≡ same_entry entry.now (entry_of_standing (outset_in kernel.old) (dialogue (outset_in kernel.old) replies)) }
 {
     let end = kernel.end(&mut Tally::new());
     let mut told = Text::new();
@@ -77,9 +77,9 @@ fn is_end(kernel: &mut Kernel<'_>, entry: &Entry) -> bool
 
 /// Whether an entry is what the terminal sends next.
 fn is_asked(kernel: &Kernel<'_>, entry: &Entry) -> bool
-    requires { next_of kernel.now ≢ next.Ended }
+    requires { kernel_next kernel.now ≢ next.Ended }
     ensures { (replies : List Reply) → KernelStands kernel.now replies
-        → result ≡ same_entry entry.now (entry_at (deal_in kernel.now) (dialogue (deal_in kernel.now) replies)) }
+        → result ≡ same_entry entry.now (entry_of_standing (outset_in kernel.now) (dialogue (outset_in kernel.now) replies)) }
 {
     match kernel.next() {
         Next::ToCard => is_command(entry, kernel.bytes()),
@@ -92,7 +92,7 @@ fn is_asked(kernel: &Kernel<'_>, entry: &Entry) -> bool
 fn last(kernel: &mut Kernel<'_>, entry: &Entry, at: u32) -> Verdict
     requires fresh { kernel.old.is_spent ≡ false }
     requires room { at < 50001 }
-    ensures { (replies : List Reply) → KernelStands kernel.old replies → result ≡ loops.left (deal_in kernel.old) replies at (entry.now ∷ []) }
+    ensures { (replies : List Reply) → KernelStands kernel.old replies → result ≡ loops.left (outset_in kernel.old) replies at (entry.now ∷ []) }
 {
     if kernel.next() == Next::Ended {
         return if is_end(kernel, entry) {
@@ -109,8 +109,8 @@ fn pair(kernel: &mut Kernel<'_>, ask: &Entry, entry: &Entry, at: u32) -> Option<
     requires fresh { kernel.old.is_spent ≡ false }
     requires room { at < 50001 }
     ensures exact { (replies : List Reply) (more : List EntryRow) → KernelStands kernel.old replies
-        → Exchanged (deal_in kernel.old) kernel.new replies at (ask.now ∷ entry.now ∷ more) result }
-    ensures deal { result ≡ None → deal_in kernel.new ≡ deal_in kernel.old }
+        → Exchanged (outset_in kernel.old) kernel.new replies at (ask.now ∷ entry.now ∷ more) result }
+    ensures outset { result ≡ None → outset_in kernel.new ≡ outset_in kernel.old }
     ensures fresh { result ≡ None → kernel.new.is_spent ≡ false }
 {
     if kernel.next() == Next::Ended {
@@ -131,9 +131,9 @@ fn exchange(kernel: &mut Kernel<'_>, rest: &[Entry], at: u32) -> Option<Verdict>
     requires fresh { kernel.old.is_spent ≡ false }
     requires room { at < 50001 }
     ensures exact { (replies : List Reply) → KernelStands kernel.old replies
-        → Exchanged (deal_in kernel.old) kernel.new replies at rest.now result }
+        → Exchanged (outset_in kernel.old) kernel.new replies at rest.now result }
     ensures two { result ≡ None → 2 ≤ length rest.now }
-    ensures deal { result ≡ None → deal_in kernel.new ≡ deal_in kernel.old }
+    ensures outset { result ≡ None → outset_in kernel.new ≡ outset_in kernel.old }
     ensures fresh { result ≡ None → kernel.new.is_spent ≡ false }
 {
     match rest {
@@ -156,7 +156,7 @@ fn verdict_by(kernel: &mut Kernel<'_>, entries: &[Entry]) -> Verdict
     requires few { length entries.now ≤ 50000 }
     requires begun { KernelStands kernel.old [] }
     requires fresh { kernel.old.is_spent ≡ false }
-    ensures { result ≡ verdict (deal_in kernel.old) entries.now }
+    ensures { result ≡ verdict (outset_in kernel.old) entries.now }
 {
     let mut rest = entries;
     let mut at = 0;

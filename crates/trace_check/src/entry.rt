@@ -77,7 +77,7 @@ fn behind<'a>(mark: &[u8], text: &'a [u8]) -> Option<&'a [u8]>
 
 /// The bytes that a text spells in hexadecimal, none where it spells none.
 fn decoded(alloc: Global, text: &[u8]) -> Result<Vec<u8>, AllocError>
-    ensures { IfOk result (λ bytes. bytes.items ≡ spec.decoded (decode_of text.now)) }
+    ensures { IfOk result (λ bytes. bytes.items ≡ spec.decoded_or_none (decode_of text.now)) }
 {
     match hex::decode(alloc, text) {
         Ok(bytes) => Ok(bytes),
@@ -128,7 +128,7 @@ fn most_in(form: Form) -> usize
 
 /// The entry of this form with these bytes.
 fn entry_with(form: Form, bytes: Bytes) -> Entry
-    ensures { result ≡ spec.entry_with form bytes }
+    ensures { result ≡ spec.entry_of_form form bytes }
 {
     match form {
         Form::ToCard => Entry::ToCard(bytes),
@@ -178,9 +178,9 @@ fn end_with(alloc: Global, text: &[u8]) -> Result<Entry, AllocError>
 }
 
 /// The entry that a text is, where it is one.
-#[tactic(auto, unfolding(crate::specs::Texts::entry_of))]
+#[tactic(auto, unfolding(crate::specs::Texts::entry_of_text))]
 pub fn entry_of(alloc: Global, text: &[u8]) -> Result<Option<Entry>, AllocError>
-    ensures { IfOk result (λ found. found ≡ spec.entry_of text.now) }
+    ensures { IfOk result (λ found. found ≡ spec.entry_of_text text.now) }
 {
     if text == b"< gone".as_slice() {
         return Ok(Some(Entry::CardGone));

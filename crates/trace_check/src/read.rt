@@ -1,17 +1,17 @@
 //! The document of a trace, from its bytes.
 ghost use Rattle.std.specs.Prelude.{◌≡◌, ◌<◌, ◌≤◌, length, codes, IfOk, vec_len};
 ghost use Rattle.toml.specs.View.{view, table_view, items_view};
-ghost use Rattle.scenario_fields.specs.Fault.{Gives, Tells};
+ghost use Rattle.scenario_fields.specs.Fault.{Gives, TellsFault};
 ghost use Rattle.scenario_fields.specs.Fields.{each, only};
-ghost use Rattle.scenario_fields.specs.Place.{path, spot_path};
+ghost use Rattle.scenario_fields.specs.TablePaths.{path, spot_path};
 ghost use Rattle.scenario_fields.specs.declared.fault.ScenarioFault.TheVariants.{OutOfLimit};
 ghost use Rattle.scenario_lanes.specs.Plan.{IsLane};
 ghost use Rattle.scenario_lanes.specs.Lanes.{traced_lane};
 ghost use Rattle.trace_check.specs.Document as spec;
-ghost use Rattle.trace_check.specs.Document.{trace_keys, trace_of, IsReading, IsTrace};
+ghost use Rattle.trace_check.specs.Document.{trace_keys, trace_of, ReadsTrace, IsTrace};
 
 use crate::entry::{Entry, entry_of};
-use scenario_fields::{Fields, LaneAt, Place, ScenarioFault, Spot};
+use scenario_fields::{Fields, LaneAt, ScenarioFault, Spot, TablePlace};
 use scenario_lanes::{Lane, read_lane};
 use std::alloc::Global;
 use std::marker::Model;
@@ -43,9 +43,9 @@ impl Model for Trace {
 }
 
 /// The entry of a text.
-#[tactic(auto, unfolding(crate::specs::Document::entry_in))]
+#[tactic(auto, unfolding(crate::specs::Document::entry_in_text))]
 fn entry_in(spot: &Spot, text: &str) -> Result<Entry, ScenarioFault>
-    ensures { Gives (λ entry. entry) result (spec.entry_in (spot_path spot.now.place spot.now.key.now spot.now.index) text.now) }
+    ensures { Gives (λ entry. entry) result (spec.entry_in_text (spot_path spot.now.place spot.now.key.now spot.now.index) text.now) }
 {
     if text.len() > MOST_TEXT {
         return Err(spot.far());
@@ -102,11 +102,11 @@ fn read_document(alloc: Global, document: &Table) -> Result<Trace, ScenarioFault
 {
     let fields = Fields {
         alloc,
-        place: Place::Top,
+        place: TablePlace::Top,
         table: document,
     };
     let pin_key = fields.byte_array("pin_key")?;
-    let table = fields.inner("lane", Place::Lane(LaneAt::Only))?.table;
+    let table = fields.inner("lane", TablePlace::Lane(LaneAt::Only))?.table;
     let lane = read_lane(alloc, table, pin_key)?;
     let entries = entries_at(&fields)?;
     only_trace_keys(&fields)?;
@@ -115,11 +115,11 @@ fn read_document(alloc: Global, document: &Table) -> Result<Trace, ScenarioFault
 
 /// The fault of a document that is too long.
 fn too_long(alloc: Global) -> ScenarioFault
-    ensures { Tells result (OutOfLimit (codes "file")) }
+    ensures { TellsFault result (OutOfLimit (codes "file")) }
 {
     let file = Spot {
         alloc,
-        place: Place::Top,
+        place: TablePlace::Top,
         key: "file",
         index: None,
     };
@@ -131,7 +131,7 @@ fn too_long(alloc: Global) -> ScenarioFault
 /// is a text of at most 8,192 bytes in one of the forms that `Entry` names, its bytes in lower-case hexadecimal
 /// as a report shows them. Want of memory is an error of its own.
 pub fn read_trace(alloc: Global, bytes: &[u8]) -> Result<Trace, ScenarioFault>
-    ensures exact { IsReading bytes.now result }
+    ensures exact { ReadsTrace bytes.now result }
     ensures rules { IfOk result IsTrace }
 {
     if bytes.len() > MOST_BYTES {

@@ -1,25 +1,25 @@
 //! The replies that a terminal takes from a trace's entries.
 ghost use Rattle.std.specs.Prelude.{◌≡◌, ◌<◌, [], true, false, List};
 ghost use Rattle.kernel.specs.Dialogue.{dialogue};
-ghost use Rattle.kernel.specs.Kernel.{KernelStands, deal_in, next_of};
-ghost use Rattle.kernel.specs.Rank.{rank_of};
+ghost use Rattle.kernel.specs.Kernel.{KernelStands, outset_in, kernel_next};
+ghost use Rattle.kernel.specs.Rank.{kernel_rank};
 ghost use Rattle.kernel.specs.Reply.{Reply};
 ghost use Rattle.kernel.specs.declared.kernel.Next.TheVariants as next;
 ghost use Rattle.trace_check.specs.Dialogues as spec;
-ghost use Rattle.trace_check.specs.Dialogues.{reply_in};
-ghost use Rattle.trace_check.specs.Loop.{Taken};
+ghost use Rattle.trace_check.specs.Dialogues.{reply_of_entry};
+ghost use Rattle.trace_check.specs.Loop.{ReplyIsTaken};
 
 use crate::entry::Entry;
 use kernel::{Kernel, Next};
 
 /// Tells a terminal that awaits the card's reply an entry, where it is one.
 fn from_card(kernel: &mut Kernel<'_>, entry: &Entry) -> bool
-    requires waits { next_of kernel.old ≡ next.ToCard }
+    requires waits { kernel_next kernel.old ≡ next.ToCard }
     requires fresh { kernel.old.is_spent ≡ false }
     ensures taken { (replies : List Reply) → KernelStands kernel.old replies
-        → Taken spec.of_card kernel.new replies (reply_in entry.now) result }
-    ensures deal { deal_in kernel.new ≡ deal_in kernel.old }
-    ensures nearer { result ≡ true → rank_of kernel.new < rank_of kernel.old }
+        → ReplyIsTaken spec.of_card kernel.new replies (reply_of_entry entry.now) result }
+    ensures outset { outset_in kernel.new ≡ outset_in kernel.old }
+    ensures nearer { result ≡ true → kernel_rank kernel.new < kernel_rank kernel.old }
     ensures fresh { kernel.new.is_spent ≡ false }
 {
     match entry {
@@ -38,12 +38,12 @@ fn from_card(kernel: &mut Kernel<'_>, entry: &Entry) -> bool
 
 /// Tells a terminal that awaits the host's reply an entry, where it is one.
 fn from_host(kernel: &mut Kernel<'_>, entry: &Entry) -> bool
-    requires waits { next_of kernel.old ≡ next.ToHost }
+    requires waits { kernel_next kernel.old ≡ next.ToHost }
     requires fresh { kernel.old.is_spent ≡ false }
     ensures taken { (replies : List Reply) → KernelStands kernel.old replies
-        → Taken spec.of_host kernel.new replies (reply_in entry.now) result }
-    ensures deal { deal_in kernel.new ≡ deal_in kernel.old }
-    ensures nearer { result ≡ true → rank_of kernel.new < rank_of kernel.old }
+        → ReplyIsTaken spec.of_host kernel.new replies (reply_of_entry entry.now) result }
+    ensures outset { outset_in kernel.new ≡ outset_in kernel.old }
+    ensures nearer { result ≡ true → kernel_rank kernel.new < kernel_rank kernel.old }
     ensures fresh { kernel.new.is_spent ≡ false }
 {
     match entry {
@@ -64,9 +64,9 @@ fn from_host(kernel: &mut Kernel<'_>, entry: &Entry) -> bool
 pub fn take(kernel: &mut Kernel<'_>, entry: &Entry) -> bool
     requires { kernel.old.is_spent ≡ false }
     ensures taken { (replies : List Reply) → KernelStands kernel.old replies
-        → Taken (spec.is_awaited (dialogue (deal_in kernel.old) replies).deed) kernel.new replies (reply_in entry.now) result }
-    ensures deal { deal_in kernel.new ≡ deal_in kernel.old }
-    ensures nearer { result ≡ true → rank_of kernel.new < rank_of kernel.old }
+        → ReplyIsTaken (spec.is_awaited (dialogue (outset_in kernel.old) replies).deed) kernel.new replies (reply_of_entry entry.now) result }
+    ensures outset { outset_in kernel.new ≡ outset_in kernel.old }
+    ensures nearer { result ≡ true → kernel_rank kernel.new < kernel_rank kernel.old }
     ensures fresh { kernel.new.is_spent ≡ false }
 {
     match kernel.next() {

@@ -3,24 +3,24 @@ use Rattle.std.proofs.Common.{◌≡◌, true, ℕ, zero, suc, ◌+◌, ◌-◌,
 use Rattle.std.specs.Int.{bit_at}
 use Rattle.std.proofs.lemmas.List.{take_at, drop_at, drop-drop, take_more, length-take-le, length-append, length-replicate, append-nil}
 use Rattle.triple_des.specs.declared.tables.TheConstants.{MERGED}
-use Rattle.triple_des.specs.Bits.{bits, number, pick, xor}
+use Rattle.triple_des.specs.Bits.{bits, number_from_bits, pick, xor}
 use Rattle.triple_des.specs.Tables.{box_tables, expansion_table, permutation_table}
-use Rattle.triple_des.specs.Des.{selected, placed, substituted}
+use Rattle.triple_des.specs.Des.{box_bits, placed, substituted}
 use Rattle.triple_des.proofs.Below.{all_below, below_at, same, same-true}
 use Rattle.triple_des.proofs.Added.{pick-xor, take-xor, drop-xor, side_by_side}
 use Rattle.triple_des.proofs.ByteLists.{small_append, small_bits, small_zeros}
 use Rattle.triple_des.proofs.Words.{length-bits, bits_split, bits_mod, bits_cat, bits_push, bits_xor}
 
 -- each of the 512 words is P of what its box gives
-all_merged : all_below (λ n. all_below (λ six. same (bits 32 (get_or (get_or MERGED n []) six 0)) (pick permutation_table (placed n (selected (get_or box_tables n []) (bits 6 six))))) 64) 8 ≡ true
-unfolding bits number pick permutation_table placed selected box_tables
+all_merged : all_below (λ n. all_below (λ six. same (bits 32 (get_or (get_or MERGED n []) six 0)) (pick permutation_table (placed n (box_bits (get_or box_tables n []) (bits 6 six))))) 64) 8 ≡ true
+unfolding bits number_from_bits pick permutation_table placed box_bits box_tables
 all_merged = refl
 
-pub merged_bits : (n six : ℕ) → n < 8 → six < 64 → bits 32 (get_or (get_or MERGED n []) six 0) ≡ pick permutation_table (placed n (selected (get_or box_tables n []) (bits 6 six)))
+pub merged_bits : (n six : ℕ) → n < 8 → six < 64 → bits 32 (get_or (get_or MERGED n []) six 0) ≡ pick permutation_table (placed n (box_bits (get_or box_tables n []) (bits 6 six)))
 merged_bits n six box small =
-    same-true (bits 32 (get_or (get_or MERGED n []) six 0)) (pick permutation_table (placed n (selected (get_or box_tables n []) (bits 6 six))))
-    (below_at (λ s. same (bits 32 (get_or (get_or MERGED n []) s 0)) (pick permutation_table (placed n (selected (get_or box_tables n []) (bits 6 s))))) 64 six
-    (below_at (λ k. all_below (λ s. same (bits 32 (get_or (get_or MERGED k []) s 0)) (pick permutation_table (placed k (selected (get_or box_tables k []) (bits 6 s))))) 64) 8 n all_merged box) small)
+    same-true (bits 32 (get_or (get_or MERGED n []) six 0)) (pick permutation_table (placed n (box_bits (get_or box_tables n []) (bits 6 six))))
+    (below_at (λ s. same (bits 32 (get_or (get_or MERGED n []) s 0)) (pick permutation_table (placed n (box_bits (get_or box_tables n []) (bits 6 s))))) 64 six
+    (below_at (λ k. all_below (λ s. same (bits 32 (get_or (get_or MERGED k []) s 0)) (pick permutation_table (placed k (box_bits (get_or box_tables k []) (bits 6 s))))) 64) 8 n all_merged box) small)
 
 -- ---- the six bits of a box
 
@@ -84,35 +84,35 @@ six_bits half ring key i below is =
 -- ---- the boxes one after another
 
 -- one box more takes the next six bits
-substituted_push : (boxes : List (List (List ℕ))) (box : List (List ℕ)) (bs : List ℕ) → substituted (boxes ++ box ∷ []) bs ≡ substituted boxes bs ++ selected box (take 6 (drop (6 * length boxes) bs))
+substituted_push : (boxes : List (List (List ℕ))) (box : List (List ℕ)) (bs : List ℕ) → substituted (boxes ++ box ∷ []) bs ≡ substituted boxes bs ++ box_bits box (take 6 (drop (6 * length boxes) bs))
 unfolding substituted
-substituted_push [] box bs = append-nil (selected box (take 6 bs))
+substituted_push [] box bs = append-nil (box_bits box (take 6 bs))
 substituted_push (first ∷ boxes) box bs =
     let places : drop (6 * length boxes) (drop 6 bs) ≡ drop (6 * suc (length boxes)) bs = drop-drop (6 * length boxes) 6 bs ∙ ap (λ (n : ℕ). drop n bs) (let e : 6 + 6 * length boxes ≡ 6 * suc (length boxes) = omega arith in e) in
-    ap (λ (l : List ℕ). selected first (take 6 bs) ++ l) (substituted_push boxes box (drop 6 bs))
-    ∙ ap (λ (l : List ℕ). selected first (take 6 bs) ++ (substituted boxes (drop 6 bs) ++ selected box (take 6 l))) places
-    ∙ sym (append_assoc (selected first (take 6 bs)) (substituted boxes (drop 6 bs)) (selected box (take 6 (drop (6 * suc (length boxes)) bs))))
+    ap (λ (l : List ℕ). box_bits first (take 6 bs) ++ l) (substituted_push boxes box (drop 6 bs))
+    ∙ ap (λ (l : List ℕ). box_bits first (take 6 bs) ++ (substituted boxes (drop 6 bs) ++ box_bits box (take 6 l))) places
+    ∙ sym (append_assoc (box_bits first (take 6 bs)) (substituted boxes (drop 6 bs)) (box_bits box (take 6 (drop (6 * suc (length boxes)) bs))))
 
-length-selected : (box : List (List ℕ)) (six : List ℕ) → length (selected box six) ≡ 4
-unfolding selected bits
-length-selected box six = refl
+length-box_bits : (box : List (List ℕ)) (six : List ℕ) → length (box_bits box six) ≡ 4
+unfolding box_bits bits
+length-box_bits box six = refl
 
-small_selected : (box : List (List ℕ)) (six : List ℕ) (i : ℕ) → get_or (selected box six) i 0 < 2
-unfolding selected
+small_selected : (box : List (List ℕ)) (six : List ℕ) (i : ℕ) → get_or (box_bits box six) i 0 < 2
+unfolding box_bits
 small_selected box six i = small_bits 4 _ i
 
 length-substituted : (boxes : List (List (List ℕ))) (bs : List ℕ) → length (substituted boxes bs) ≡ 4 * length boxes
 unfolding substituted
 length-substituted [] bs = refl
 length-substituted (box ∷ boxes) bs =
-    length-append (selected box (take 6 bs)) (substituted boxes (drop 6 bs))
-    ∙ omega (arith, length-selected box (take 6 bs), length-substituted boxes (drop 6 bs))
+    length-append (box_bits box (take 6 bs)) (substituted boxes (drop 6 bs))
+    ∙ omega (arith, length-box_bits box (take 6 bs), length-substituted boxes (drop 6 bs))
 
 small_substituted : (boxes : List (List (List ℕ))) (bs : List ℕ) (i : ℕ) → get_or (substituted boxes bs) i 0 < 2
 unfolding substituted
 small_substituted [] bs i = omega arith
 small_substituted (box ∷ boxes) bs i =
-    small_append (selected box (take 6 bs)) (substituted boxes (drop 6 bs)) (small_selected box (take 6 bs)) (small_substituted boxes (drop 6 bs)) i
+    small_append (box_bits box (take 6 bs)) (substituted boxes (drop 6 bs)) (small_selected box (take 6 bs)) (small_substituted boxes (drop 6 bs)) i
 
 -- P of what the first i boxes give, with 0 where the others will stand
 abbrev pub so_far : ℕ → List ℕ → List ℕ
@@ -123,21 +123,21 @@ unfolding bits pick permutation_table substituted
 no_box bs = refl
 
 -- one box more, added
-pub box_more : (bs : List ℕ) (out i word : ℕ) → i < 8 → bits 32 word ≡ pick permutation_table (placed i (selected (get_or box_tables i []) (take 6 (drop (6 * i) bs)))) → bits 32 out ≡ so_far i bs → bits 32 (bit_xor out word) ≡ so_far (i + 1) bs
+pub box_more : (bs : List ℕ) (out i word : ℕ) → i < 8 → bits 32 word ≡ pick permutation_table (placed i (box_bits (get_or box_tables i []) (take 6 (drop (6 * i) bs)))) → bits 32 out ≡ so_far i bs → bits 32 (bit_xor out word) ≡ so_far (i + 1) bs
 unfolding box_tables placed
 box_more bs out i word below is before =
     let box : List (List ℕ) = get_or box_tables i [] in
     let front : List (List (List ℕ)) = take i box_tables in
     let done : List ℕ = substituted front bs in
-    let four : List ℕ = selected box (take 6 (drop (6 * i) bs)) in
+    let four : List ℕ = box_bits box (take 6 (drop (6 * i) bs)) in
     let zeros : List ℕ = replicate (28 - 4 * i) 0 in
     let taken : length front ≡ i = length-take-le i box_tables (omega arith) in
     let done_long : length done ≡ 4 * i = length-substituted front bs ∙ ap (λ (n : ℕ). 4 * n) taken in
-    let rest_long : length (four ++ zeros) ≡ 32 - 4 * i = length-append four zeros ∙ omega (arith, length-selected box (take 6 (drop (6 * i) bs)), length-replicate {A = ℕ} (28 - 4 * i) 0) in
+    let rest_long : length (four ++ zeros) ≡ 32 - 4 * i = length-append four zeros ∙ omega (arith, length-box_bits box (take 6 (drop (6 * i) bs)), length-replicate {A = ℕ} (28 - 4 * i) 0) in
     let next : substituted (take (i + 1) box_tables) bs ≡ done ++ four =
     ap (λ (t : List (List (List ℕ))). substituted t bs) (take_more box_tables i [] below)
     ∙ substituted_push front box bs
-    ∙ ap (λ (n : ℕ). done ++ selected box (take 6 (drop (6 * n) bs))) taken in
+    ∙ ap (λ (n : ℕ). done ++ box_bits box (take 6 (drop (6 * n) bs))) taken in
     let fewer : 28 - 4 * i ≡ 32 - 4 * (i + 1) = omega arith in
     let sum : xor (done ++ replicate (32 - 4 * i) 0) (placed i four) ≡ substituted (take (i + 1) box_tables) bs ++ replicate (32 - 4 * (i + 1)) 0 =
     ap (λ (n : ℕ). xor (done ++ replicate n 0) (placed i four)) (sym rest_long)

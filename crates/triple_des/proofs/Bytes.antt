@@ -6,17 +6,17 @@ use Rattle.std.proofs.lemmas.Grind.{pow_more}
 use Rattle.std.proofs.lemmas.List.{take_at, drop_at}
 use Rattle.std.proofs.lemmas.Nat.{pow-add, be_bytes_8, mod-pow-add}
 use Rattle.std.proofs.Math.Nat.{div-one}
-use Rattle.triple_des.specs.Bits.{bits, number, bits_of, bytes_of}
+use Rattle.triple_des.specs.Bits.{bits, number_from_bits, bits_of_each_byte, bytes_from_bits}
 use Rattle.triple_des.proofs.Words.{length-bits, bits_split, bits_mod}
 
 -- the number that a word's low bits write
-pub number-bits : (n x : ℕ) → number (bits n x) ≡ x % 2 ^ n
-unfolding bits number
-number-bits zero x = let e : 0 ≡ x % 1 = omega arith in e
-number-bits (suc n) x =
+pub number_from_bits-bits : (n x : ℕ) → number_from_bits (bits n x) ≡ x % 2 ^ n
+unfolding bits number_from_bits
+number_from_bits-bits zero x = let e : 0 ≡ x % 1 = omega arith in e
+number_from_bits-bits (suc n) x =
     let next : suc n ≡ 1 + n = omega arith in
-    ap (λ (k : ℕ). bit_at x n * 2 ^ k + number (bits n x)) (length-bits n x)
-    ∙ ap (λ (low : ℕ). bit_at x n * 2 ^ n + low) (number-bits n x)
+    ap (λ (k : ℕ). bit_at x n * 2 ^ k + number_from_bits (bits n x)) (length-bits n x)
+    ∙ ap (λ (low : ℕ). bit_at x n * 2 ^ n + low) (number_from_bits-bits n x)
     ∙ sym (mod-pow-add x 1 n)
     ∙ ap (λ (k : ℕ). x % 2 ^ k) (sym next)
 
@@ -51,19 +51,19 @@ bits_of_bytes (suc k) x =
     ∙ ap (λ (n : ℕ). bits n x) (sym (eight_more k))
 
 -- the bytes that a word's bits write
-pub bytes_of_bits : (k x : ℕ) → bytes_of k (bits (8 * k) x) ≡ bytes_high_first k x
-unfolding bytes_of
+pub bytes_of_bits : (k x : ℕ) → bytes_from_bits k (bits (8 * k) x) ≡ bytes_high_first k x
+unfolding bytes_from_bits
 bytes_of_bits zero x = refl
 bytes_of_bits (suc k) x =
     let all : bits (8 * suc k) x ≡ bits 8 (x / 2 ^ (8 * k)) ++ bits (8 * k) x = ap (λ (n : ℕ). bits n x) (eight_more k) ∙ bits_split 8 (8 * k) x in
-    ap (λ (l : List ℕ). number (take 8 l) ∷ bytes_of k (drop 8 l)) all
-    ∙ ap (λ (l : List ℕ). number l ∷ bytes_of k (drop 8 (bits 8 (x / 2 ^ (8 * k)) ++ bits (8 * k) x))) (take_at (bits 8 (x / 2 ^ (8 * k))) (bits (8 * k) x) 8 (length-bits 8 (x / 2 ^ (8 * k))))
-    ∙ ap (λ (l : List ℕ). number (bits 8 (x / 2 ^ (8 * k))) ∷ bytes_of k l) (drop_at (bits 8 (x / 2 ^ (8 * k))) (bits (8 * k) x) 8 (length-bits 8 (x / 2 ^ (8 * k))))
-    ∙ ap (λ (b : ℕ). b ∷ bytes_of k (bits (8 * k) x)) (number-bits 8 (x / 2 ^ (8 * k)) ∙ sym (byte_at_is k x))
+    ap (λ (l : List ℕ). number_from_bits (take 8 l) ∷ bytes_from_bits k (drop 8 l)) all
+    ∙ ap (λ (l : List ℕ). number_from_bits l ∷ bytes_from_bits k (drop 8 (bits 8 (x / 2 ^ (8 * k)) ++ bits (8 * k) x))) (take_at (bits 8 (x / 2 ^ (8 * k))) (bits (8 * k) x) 8 (length-bits 8 (x / 2 ^ (8 * k))))
+    ∙ ap (λ (l : List ℕ). number_from_bits (bits 8 (x / 2 ^ (8 * k))) ∷ bytes_from_bits k l) (drop_at (bits 8 (x / 2 ^ (8 * k))) (bits (8 * k) x) 8 (length-bits 8 (x / 2 ^ (8 * k))))
+    ∙ ap (λ (b : ℕ). b ∷ bytes_from_bits k (bits (8 * k) x)) (number_from_bits-bits 8 (x / 2 ^ (8 * k)) ∙ sym (byte_at_is k x))
     ∙ ap (λ (l : List ℕ). byte_at k x ∷ l) (bytes_of_bits k x)
 
 -- the word that eight bytes write has their bits
-pub bits_from_bytes : (bytes : List ℕ) (word : ℕ) → length bytes ≡ 8 → ((i : ℕ) → get_or bytes i 0 < 256) → word ≡ from_be_bytes w64 bytes → bits 64 word ≡ bits_of bytes
-unfolding bits_of
+pub bits_from_bytes : (bytes : List ℕ) (word : ℕ) → length bytes ≡ 8 → ((i : ℕ) → get_or bytes i 0 < 256) → word ≡ from_be_bytes w64 bytes → bits 64 word ≡ bits_of_each_byte bytes
+unfolding bits_of_each_byte
 bits_from_bytes bytes word eight small is =
     sym (bits_of_bytes 8 word) ∙ ap (λ (l : List ℕ). flat_map (bits 8) l) (be_bytes_8 bytes word eight small is)

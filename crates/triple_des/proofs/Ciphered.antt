@@ -1,10 +1,10 @@
 -- What a cipher gives is a block of bytes again, and the two-key decipherment undoes the encipherment.
 use Rattle.std.proofs.Common.{◌≡◌, ℕ, zero, suc, ◌-◌, ◌<◌, List, [], ◌∷◌, length, take, drop, get_or, reverse, refl, ◌∙◌, ap, arith}
-use Rattle.triple_des.specs.Bits.{pick, xor, bits_of}
+use Rattle.triple_des.specs.Bits.{pick, xor, bits_of_each_byte}
 use Rattle.triple_des.specs.Tables.{initial_table, final_table}
 use Rattle.triple_des.specs.Des.{cipher_function, round, rounds, halves_of, swapped, cipher, enciphered, deciphered}
 use Rattle.triple_des.specs.TripleDes.{left_keys, right_keys, tdes, untdes}
-use Rattle.triple_des.proofs.ByteLists.{small_append, small_bits_of, length-bytes_of, small_bytes_of}
+use Rattle.triple_des.proofs.ByteLists.{small_append, small_bits_of, length-bytes_from_bits, small_bytes_of}
 use Rattle.triple_des.proofs.Undone.{IsBlock, deciphered_undoes, enciphered_undoes}
 
 -- each number is a bit
@@ -57,8 +57,8 @@ cipher_size keys bs = refl
 enciphered_block : (keys : List (List ℕ)) (block : List ℕ) → IsBlock (enciphered keys block)
 unfolding enciphered
 enciphered_block keys block = record {
-  long = length-bytes_of 8 (cipher keys (bits_of block));
-  small = small_bytes_of 8 (cipher keys (bits_of block)) (cipher_size keys (bits_of block)) (cipher_bits keys (bits_of block) (small_bits_of block));
+  long = length-bytes_from_bits 8 (cipher keys (bits_of_each_byte block));
+  small = small_bytes_of 8 (cipher keys (bits_of_each_byte block)) (cipher_size keys (bits_of_each_byte block)) (cipher_bits keys (bits_of_each_byte block) (small_bits_of block));
 }
 
 deciphered_block : (keys : List (List ℕ)) (block : List ℕ) → IsBlock (deciphered keys block)

@@ -3,7 +3,7 @@ use Rattle.std.proofs.Common.{◌≡◌, ℕ, ◌+◌, ◌*◌, ◌/◌, ◌%◌
 use Rattle.std.specs.Int.{bit_at}
 use Rattle.std.proofs.lemmas.List.{take_at, drop_at}
 use Rattle.triple_des.specs.Bits.{bits}
-use Rattle.triple_des.specs.Des.{halves_of, swapped, turned}
+use Rattle.triple_des.specs.Des.{halves_of, swapped, rotated_left}
 use Rattle.triple_des.proofs.Words.{length-bits, bits_split, bits_mod, bits_cat, bits_push}
 
 pub take-bits : (a b x : ℕ) → take a (bits (a + b) x) ≡ bits a (x / 2 ^ b)
@@ -23,13 +23,13 @@ halves_of-bits x =
 pub bits-swapped : (left right : ℕ) → left < 2 ^ 32 → bits 64 (right * 2 ^ 32 + left) ≡ swapped (bits 32 left, bits 32 right)
 bits-swapped left right small = bits_cat 32 32 right left small
 
-first_bit : (x : ℕ) → turned 1 (bits 28 x) ≡ bits 27 x ++ bit_at x 27 ∷ []
+first_bit : (x : ℕ) → rotated_left 1 (bits 28 x) ≡ bits 27 x ++ bit_at x 27 ∷ []
 unfolding bits
 first_bit x = refl
 
 -- one place to the left
-pub bits-turned : (half : ℕ) → half < 2 ^ 28 → bits 28 (half % 2 ^ 27 * 2 + half / 2 ^ 27) ≡ turned 1 (bits 28 half)
-bits-turned half small =
+pub bits-rotated_left : (half : ℕ) → half < 2 ^ 28 → bits 28 (half % 2 ^ 27 * 2 + half / 2 ^ 27) ≡ rotated_left 1 (bits 28 half)
+bits-rotated_left half small =
     let first : half / 2 ^ 27 < 2 = omega arith in
     let bit : half / 2 ^ 27 ≡ bit_at half 27 = omega arith in
     bits_push 27 (half % 2 ^ 27) (half / 2 ^ 27) first

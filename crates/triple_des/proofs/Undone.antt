@@ -5,11 +5,11 @@ use Rattle.std.proofs.lemmas.Bool.{and_parts, eqb-true, ltb-true}
 use Rattle.std.proofs.lemmas.Grind.{reverse_onto, same_number_lists}
 use Rattle.std.proofs.lemmas.List.{take_at, drop_at, length-map, get_or-map, take-append-drop, length-append, length-take, length-drop, get_or-drop, reverse-reverse}
 use Rattle.std.proofs.lemmas.List.Sums.{fold-append}
-use Rattle.triple_des.specs.Bits.{pick, xor, bits_of, bytes_of}
+use Rattle.triple_des.specs.Bits.{pick, xor, bits_of_each_byte, bytes_from_bits}
 use Rattle.triple_des.specs.Tables.{initial_table, final_table, permutation_table}
 use Rattle.triple_des.specs.Des.{cipher_function, round, rounds, halves_of, swapped, cipher, enciphered, deciphered}
 use Rattle.triple_des.proofs.Below.{all_below, below_at}
-use Rattle.triple_des.proofs.ByteLists.{small_append, length-bits_of, small_bits_of, bytes_of-bits_of, bits_of-bytes_of}
+use Rattle.triple_des.proofs.ByteLists.{small_append, length-bits_of_each_byte, small_bits_of, bytes_from_bits-bits_of_each_byte, bits_of_each_byte-bytes_from_bits}
 
 -- a list of bits
 pub record IsBits (n : ℕ) (bs : List ℕ) : Type 0 where
@@ -208,17 +208,17 @@ pub record IsBlock (bytes : List ℕ) : Type 0 where
   pub long : length bytes ≡ 8
   pub small : (i : ℕ) → get_or bytes i 0 < 256
 
-block_bits : (block : List ℕ) → IsBlock block → IsBits 64 (bits_of block)
-block_bits block is = record { long = length-bits_of block ∙ ap (λ (n : ℕ). 8 * n) is.long; small = small_bits_of block }
+block_bits : (block : List ℕ) → IsBlock block → IsBits 64 (bits_of_each_byte block)
+block_bits block is = record { long = length-bits_of_each_byte block ∙ ap (λ (n : ℕ). 8 * n) is.long; small = small_bits_of block }
 
 pub deciphered_undoes : (keys : List (List ℕ)) (block : List ℕ) → IsBlock block → deciphered keys (enciphered keys block) ≡ block
 unfolding deciphered enciphered
 deciphered_undoes keys block is =
-    let coded : IsBits 64 (cipher keys (bits_of block)) = cipher_is_bits keys (bits_of block) (block_bits block is) in
-    ap (λ (l : List ℕ). bytes_of 8 (cipher (reverse keys) l)) (bits_of-bytes_of 8 (cipher keys (bits_of block)) coded.long coded.small)
-    ∙ ap (λ (l : List ℕ). bytes_of 8 l) (cipher_undone keys (bits_of block) (block_bits block is))
-    ∙ ap (λ (n : ℕ). bytes_of n (bits_of block)) (sym is.long)
-    ∙ bytes_of-bits_of block is.small
+    let coded : IsBits 64 (cipher keys (bits_of_each_byte block)) = cipher_is_bits keys (bits_of_each_byte block) (block_bits block is) in
+    ap (λ (l : List ℕ). bytes_from_bits 8 (cipher (reverse keys) l)) (bits_of_each_byte-bytes_from_bits 8 (cipher keys (bits_of_each_byte block)) coded.long coded.small)
+    ∙ ap (λ (l : List ℕ). bytes_from_bits 8 l) (cipher_undone keys (bits_of_each_byte block) (block_bits block is))
+    ∙ ap (λ (n : ℕ). bytes_from_bits n (bits_of_each_byte block)) (sym is.long)
+    ∙ bytes_from_bits-bits_of_each_byte block is.small
 
 pub enciphered_undoes : (keys : List (List ℕ)) (block : List ℕ) → IsBlock block → enciphered keys (deciphered keys block) ≡ block
 unfolding deciphered

@@ -10,9 +10,9 @@ bits zero x = []
 bits (suc n) x = bit_at x n ∷ bits n x
 
 -- the number that bits write
-unfoldable pub number : List ℕ → ℕ
-number [] = 0
-number (bit ∷ rest) = bit * 2 ^ length rest + number rest
+unfoldable pub number_from_bits : List ℕ → ℕ
+number_from_bits [] = 0
+number_from_bits (bit ∷ rest) = bit * 2 ^ length rest + number_from_bits rest
 
 -- the bits at the places that a table names, counted from 1 at the left
 unfoldable pub pick : List ℕ → List ℕ → List ℕ
@@ -25,13 +25,13 @@ xor (x ∷ xs) [] = []
 xor [] ys = []
 
 -- the bits of bytes, each byte's highest first
-unfoldable pub bits_of : List ℕ → List ℕ
-bits_of bytes = flat_map (bits 8) bytes
+unfoldable pub bits_of_each_byte : List ℕ → List ℕ
+bits_of_each_byte bytes = flat_map (bits 8) bytes
 
 -- n bytes, written by the first 8 n of these bits
-unfoldable pub bytes_of : ℕ → List ℕ → List ℕ
-bytes_of zero bs = []
-bytes_of (suc n) bs = number (take 8 bs) ∷ bytes_of n (drop 8 bs)
+unfoldable pub bytes_from_bits : ℕ → List ℕ → List ℕ
+bytes_from_bits zero bs = []
+bytes_from_bits (suc n) bs = number_from_bits (take 8 bs) ∷ bytes_from_bits n (drop 8 bs)
 
 -- two lists of bytes, byte by byte
 unfoldable pub xor_bytes : List ℕ → List ℕ → List ℕ

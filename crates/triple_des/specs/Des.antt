@@ -1,25 +1,25 @@
 -- The data encryption standard, FIPS 46-3, on lists of bits. A key and a block are lists of eight bytes.
 use Rattle.std.specs.Prelude.{ℕ, List, [], ◌∷◌, ◌++◌, ◌-◌, ◌*◌, take, drop, replicate, reverse, slice_index, slice_index_or}
 use Rattle.std.specs.List.{fold}
-use Rattle.triple_des.specs.Bits.{bits, number, pick, xor, bits_of, bytes_of}
+use Rattle.triple_des.specs.Bits.{bits, number_from_bits, pick, xor, bits_of_each_byte, bytes_from_bits}
 use Rattle.triple_des.specs.Tables.{initial_table, final_table, expansion_table, permutation_table}
 use Rattle.triple_des.specs.Tables.{first_choice_table, second_choice_table, shift_table, box_tables}
 
 -- the row of a box is written by bits 1 and 6 of the six, the column by bits 2 to 5
 abbrev pub row_of : List ℕ → ℕ
-row_of six = number (slice_index six 0 ∷ slice_index six 5 ∷ [])
+row_of six = number_from_bits (slice_index six 0 ∷ slice_index six 5 ∷ [])
 
 abbrev pub column_of : List ℕ → ℕ
-column_of six = number (take 4 (drop 1 six))
+column_of six = number_from_bits (take 4 (drop 1 six))
 
 -- the four bits that a box gives for six
-unfoldable pub selected : List (List ℕ) → List ℕ → List ℕ
-selected box six = bits 4 (slice_index (slice_index_or box (row_of six) []) (column_of six))
+unfoldable pub box_bits : List (List ℕ) → List ℕ → List ℕ
+box_bits box six = bits 4 (slice_index (slice_index_or box (row_of six) []) (column_of six))
 
 -- each box in turn takes six bits and gives four
 unfoldable pub substituted : List (List (List ℕ)) → List ℕ → List ℕ
 substituted [] bs = []
-substituted (box ∷ boxes) bs = selected box (take 6 bs) ++ substituted boxes (drop 6 bs)
+substituted (box ∷ boxes) bs = box_bits box (take 6 bs) ++ substituted boxes (drop 6 bs)
 
 -- four bits where the box of this number, counted from 0, gives them, and 0 at the other places of 32
 unfoldable pub placed : ℕ → List ℕ → List ℕ
@@ -51,27 +51,27 @@ cipher keys bs = pick final_table (swapped (rounds keys (halves_of (pick initial
 
 -- a block enciphered under round keys
 unfoldable pub enciphered : List (List ℕ) → List ℕ → List ℕ
-enciphered keys block = bytes_of 8 (cipher keys (bits_of block))
+enciphered keys block = bytes_from_bits 8 (cipher keys (bits_of_each_byte block))
 
 -- a block deciphered under them: they are taken in reverse
 unfoldable pub deciphered : List (List ℕ) → List ℕ → List ℕ
 deciphered keys block = enciphered (reverse keys) block
 
 -- C or D, turned to the left
-abbrev pub turned : ℕ → List ℕ → List ℕ
-turned places half = drop places half ++ take places half
+abbrev pub rotated_left : ℕ → List ℕ → List ℕ
+rotated_left places half = drop places half ++ take places half
 
 -- for each round C and D are turned, and PC-2 takes the key from both
 unfoldable pub schedule : List ℕ → List ℕ → List ℕ → List (List ℕ)
 schedule [] c d = []
 schedule (places ∷ rest) c d =
-    pick second_choice_table (turned places c ++ turned places d)
-    ∷ schedule rest (turned places c) (turned places d)
+    pick second_choice_table (rotated_left places c ++ rotated_left places d)
+    ∷ schedule rest (rotated_left places c) (rotated_left places d)
 
 -- the sixteen round keys of a key of eight bytes: PC-1 leaves its parity bits out
 unfoldable pub round_keys : List ℕ → List (List ℕ)
 round_keys key =
-    let chosen = pick first_choice_table (bits_of key) in
+    let chosen = pick first_choice_table (bits_of_each_byte key) in
     schedule shift_table (take 28 chosen) (drop 28 chosen)
 
 -- a block enciphered under a key

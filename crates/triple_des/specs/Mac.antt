@@ -7,8 +7,8 @@ use Rattle.triple_des.specs.Des.{enciphered, deciphered}
 use Rattle.triple_des.specs.TripleDes.{left_keys, right_keys}
 
 -- the text, a byte 80 and the fewest bytes 00 up to a multiple of eight
-abbrev pub padded : List ℕ → List ℕ
-padded text = text ++ 128 ∷ replicate (7 - length text % 8) 0
+abbrev pub padded_text : List ℕ → List ℕ
+padded_text text = text ++ 128 ∷ replicate (7 - length text % 8) 0
 
 -- the first n blocks of eight bytes
 unfoldable pub first_blocks : ℕ → List ℕ → List (List ℕ)
@@ -29,5 +29,5 @@ chained keys all = chained_from keys (replicate 8 0) all
 -- chained with the left key; the last result is deciphered right and enciphered left
 unfoldable pub mac : List ℕ → List ℕ → List ℕ
 mac key text =
-    let last = chained (left_keys key) (blocks (padded text)) in
+    let last = chained (left_keys key) (blocks (padded_text text)) in
     enciphered (left_keys key) (deciphered (right_keys key) last)

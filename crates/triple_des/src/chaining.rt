@@ -1,6 +1,6 @@
 ghost use Rattle.std.specs.Prelude.{◌≡◌, ◌≤◌, ◌<◌, ◌+◌, ◌++◌, [], length, take, drop, slice_index};
 ghost use Rattle.triple_des.specs.Bits.{xor_bytes};
-ghost use Rattle.triple_des.specs.Mac.{padded, blocks, chained, mac};
+ghost use Rattle.triple_des.specs.Mac.{padded_text, blocks, chained, mac};
 ghost use Rattle.triple_des.specs.TripleDes.{left_keys};
 
 use crate::double::Key16;
@@ -19,8 +19,8 @@ pub fn xor_blocks(first: [u8; 8], second: [u8; 8]) -> [u8; 8]
 
 /// The byte at a place of two texts, one behind the other, with their padding.
 fn padded_byte(head: &[u8], tail: &[u8], at: usize) -> u8
-    requires { at < length (padded (head.now ++ tail.now)) }
-    ensures { result ≡ slice_index (padded (head.now ++ tail.now)) at }
+    requires { at < length (padded_text (head.now ++ tail.now)) }
+    ensures { result ≡ slice_index (padded_text (head.now ++ tail.now)) at }
 {
     if at < head.len() {
         return head[at];
@@ -34,8 +34,8 @@ fn padded_byte(head: &[u8], tail: &[u8], at: usize) -> u8
 
 /// The eight bytes from a place on of two texts, one behind the other, with their padding.
 fn padded_block(head: &[u8], tail: &[u8], at: usize) -> [u8; 8]
-    requires { at + 8 ≤ length (padded (head.now ++ tail.now)) }
-    ensures { result ≡ take 8 (drop at (padded (head.now ++ tail.now))) }
+    requires { at + 8 ≤ length (padded_text (head.now ++ tail.now)) }
+    ensures { result ≡ take 8 (drop at (padded_text (head.now ++ tail.now))) }
 {
     let mut block = [0; 8];
     for index in 0..8 {
@@ -47,7 +47,7 @@ fn padded_block(head: &[u8], tail: &[u8], at: usize) -> [u8; 8]
 /// What single DES gives for the last of the chained blocks of two texts, one behind the other, with
 /// their padding.
 fn chain(key: &Des, head: &[u8], tail: &[u8]) -> [u8; 8]
-    ensures { result ≡ chained key.now (blocks (padded (head.now ++ tail.now))) }
+    ensures { result ≡ chained key.now (blocks (padded_text (head.now ++ tail.now))) }
 {
     let count = (head.len() + tail.len()) / 8 + 1;
     let mut state = [0; 8];

@@ -4,7 +4,7 @@ ghost use Rattle.std.specs.Prelude.{◌≡◌, ◌<◌, [], ◌∷◌, ◌++◌,
 ghost use Rattle.std.specs.Int.{bit_at};
 ghost use Rattle.triple_des.specs.Bits.{bits, pick};
 ghost use Rattle.triple_des.specs.Tables.{box_tables, permutation_table};
-ghost use Rattle.triple_des.specs.Des.{selected, placed, cipher_function, rounds, cipher, enciphered};
+ghost use Rattle.triple_des.specs.Des.{box_bits, placed, cipher_function, rounds, cipher, enciphered};
 
 use crate::permuting::permute_by;
 use crate::tables::{FINAL, INITIAL, MERGED};
@@ -16,7 +16,7 @@ pub fn merged(number: u8, six: u8) -> u32
     requires boxes { number < 8 }
     requires bits { six < 64 }
     ensures { bits 32 result
-        ≡ pick permutation_table (placed number (selected (slice_index_or box_tables number []) (bits 6 six))) }
+        ≡ pick permutation_table (placed number (box_bits (slice_index_or box_tables number []) (bits 6 six))) }
 {
     MERGED[number as usize][six as usize]
 }

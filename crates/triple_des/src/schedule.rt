@@ -3,7 +3,7 @@
 ghost use Rattle.std.specs.Prelude.{◌≡◌, ◌<◌, ◌≤◌, ◌^◌, map};
 ghost use Rattle.triple_des.specs.Bits.{bits};
 ghost use Rattle.triple_des.specs.Tables.{shift_table};
-ghost use Rattle.triple_des.specs.Des.{turned, schedule, round_keys};
+ghost use Rattle.triple_des.specs.Des.{rotated_left, schedule, round_keys};
 
 use crate::permuting::permute_by;
 use crate::tables::{FIRST_CHOICE, SECOND_CHOICE, SHIFTS};
@@ -12,7 +12,7 @@ use crate::tables::{FIRST_CHOICE, SECOND_CHOICE, SHIFTS};
 fn turn_once(half: u64) -> u64
     requires { half < 2 ^ 28 }
     ensures fits { result < 2 ^ 28 }
-    ensures bits { bits 28 result ≡ turned 1 (bits 28 half) }
+    ensures bits { bits 28 result ≡ rotated_left 1 (bits 28 half) }
 {
     half % (1 << 27) * 2 + half / (1 << 27)
 }
@@ -23,7 +23,7 @@ fn turn(half: u64, places: u8) -> u64
     requires some { 1 ≤ places }
     requires few { places ≤ 2 }
     ensures fits { result < 2 ^ 28 }
-    ensures bits { bits 28 result ≡ turned places (bits 28 half) }
+    ensures bits { bits 28 result ≡ rotated_left places (bits 28 half) }
 {
     let once = turn_once(half);
     if places == 1 {

@@ -1,4 +1,5 @@
 -- Lists that grow at their end, or that change at one place.
+-- What stands at a place of them is what stood there before, or what was put there.
 use Rattle.std.proofs.Common.{◌≡◌, ◌≢◌, ℕ, zero, suc, ◌⊎◌, ◌+◌, ◌<◌, ◌≤◌, List, [], ◌∷◌, ◌++◌, length, take, drop, replicate, get_or, set, map, slice_get, Some, refl, sym, ap, ◌∙◌, subst, true, false, nat_lt, arith, inl, inr}
 use Rattle.std.proofs.lemmas.Bool.{cases_eq}
 use Rattle.std.proofs.lemmas.Bool.Decides.{nat_tests}

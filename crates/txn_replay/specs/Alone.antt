@@ -3,7 +3,7 @@
 use Rattle.std.specs.Prelude.{◌≡◌, ◌≢◌, ℕ, zero, suc, ◌+◌, ◌==◌, Bool, true, false, ◌&&◌, ◌||◌, List, [], ◌∷◌, ◌++◌, length, flat_map, slice_get, Option, Some, None}
 use Rattle.std.specs.List.{list_any}
 use Rattle.std.specs.Str.{bytes_eq}
-use Rattle.host_histories.specs.Apart.{pan_of, own_messages, own_accounts}
+use Rattle.host_histories.specs.Apart.{pan_carried, own_messages, own_accounts}
 use Rattle.report_text.specs.declared.line.Line.{Line}
 use Rattle.report_text.specs.declared.line.Line.TheVariants.{Power, PowerCanned, PowerTorn, ToCard, FromCard, Torn, Gone, ToHost, FromHost, NoReply, End, EndLost, SettleCall, SettleReply, AuditPower, AuditAsk, AuditAnswer, Balance}
 use Rattle.scenario.specs.Cards.{CardData, no_image}
@@ -62,10 +62,9 @@ alone pans s l = record {
   copies = s.copies;
 }
 
--- a run of it, to the balances of its accounts
-pub record LaneRun (pans : List ℕ → Bool) (s : ScenarioData) (l : ℕ) (lines : List Line) (w : World) : Type 0 where
+-- a run of it with these truth values, to the balances of its accounts
+pub record LaneRun (pans : List ℕ → Bool) (s : ScenarioData) (l : ℕ) (choices : List Bool) (lines : List Line) (w : World) : Type 0 where
   pub count : ℕ
-  pub choices : List Bool
   pub reported : List Line
   pub reached : Reached (alone pans s l) Finished count choices reported w
   pub whole : lines ≡ reported ++ flat_map (account_lines (alone pans s l) w) (own_accounts pans s.accounts)
@@ -75,12 +74,12 @@ abbrev pub HasOwnCards : ScenarioData → ℕ → Type 0
 HasOwnCards s l = (k number : ℕ) (p : Payment) → k ≢ l → payment_in s k number ≡ Some p → is_card_of s l p.planned.card ≡ false
 
 -- a message carries one of these account numbers or none of them, where it can be read
-abbrev pub Carries : (List ℕ → Bool) → Bool → List ℕ → Type 0
-Carries pans own message = (pan : List ℕ) → pan_of message ≡ Some pan → pans pan ≡ own
+abbrev pub CarriesPan : (List ℕ → Bool) → Bool → List ℕ → Type 0
+CarriesPan pans own message = (pan : List ℕ) → pan_carried message ≡ Some pan → pans pan ≡ own
 
 -- the messages that a lane has made carry these account numbers alone, and those of other lanes carry none of them
 abbrev pub HasOwnNumbers : (List ℕ → Bool) → ℕ → World → Type 0
-HasOwnNumbers pans l w = (k i : ℕ) (message : List ℕ) → slice_get (lane_at w k).sent i ≡ Some message → Carries pans (k == l) message
+HasOwnNumbers pans l w = (k i : ℕ) (message : List ℕ) → slice_get (lane_at w k).sent i ≡ Some message → CarriesPan pans (k == l) message
 
 -- two worlds agree on a lane's row, the rows of its cards, and the messages that carry one of these account numbers; in the
 -- second no other lane does anything

@@ -3,7 +3,7 @@ use Rattle.std.specs.Prelude.{◌≡◌, ◌⊎◌, ℕ, zero, suc, ◌+◌, Boo
 use Rattle.app_select.specs.Said.{select_command}
 use Rattle.card_app.specs.Answering.{card_answer}
 use Rattle.card_files.specs.Views.{AppData}
-use Rattle.card_app.specs.SeenChip.{ChipSeen, ChipOn}
+use Rattle.card_app.specs.SeenIcc.{IccSeen, IccOn}
 use Rattle.card_pages.specs.Pages.{found_of}
 use Rattle.report_text.specs.declared.line.Line.{Line}
 use Rattle.risk_mgmt.specs.Counters.{counter_tag, last_online_tag, get_data}
@@ -11,7 +11,7 @@ use Rattle.scenario.specs.Cards.{CardData}
 use Rattle.scenario.specs.Seen.{seen_card}
 use Rattle.txn_replay.specs.Changes.{powered, exchanged}
 use Rattle.txn_replay.specs.Lines.{audit_power_line, audit_lines}
-use Rattle.txn_replay.specs.Slot.{SlotSeen, SlotOn, SlotOff}
+use Rattle.txn_replay.specs.RunCard.{RunCardSeen, RunCardOn, RunCardOff}
 use Rattle.txn_replay.specs.Steps.{Check, PowersUp, Asks}
 use Rattle.txn_replay.specs.World.{CardRow}
 use Rattle.txn_replay.specs.declared.audit.AuditStep.{AuditStep}
@@ -27,10 +27,10 @@ abbrev pub question_check : ℕ → CardData → Question → Check
 question_check i card question = Asks i card (question_command question)
 
 -- the first, second or third question to an application
-abbrev pub asked_by : ℕ → CardData → AppData → ℕ → Check
-asked_by i card app zero = Asks i card (select_command 0 app.name)
-asked_by i card app (suc zero) = Asks i card (get_data counter_tag)
-asked_by i card app (suc (suc rest)) = Asks i card (get_data last_online_tag)
+abbrev pub audit_question : ℕ → CardData → AppData → ℕ → Check
+audit_question i card app zero = Asks i card (select_command 0 app.name)
+audit_question i card app (suc zero) = Asks i card (get_data counter_tag)
+audit_question i card app (suc (suc rest)) = Asks i card (get_data last_online_tag)
 
 abbrev pub check_by : ℕ → CardData → Option Question → Check
 check_by i card None = PowersUp i card
@@ -40,13 +40,13 @@ abbrev pub step_check : AuditStep → Check
 step_check step = check_by step.index (seen_card step.card.now) step.question
 
 -- a card that no purchase has: off, or turned on by the audit
-abbrev pub RowRests : SlotSeen → CardRow → Type 0
-RowRests slot row = SlotOff slot row.kept row.pending ⊎ SlotOn slot row None
+abbrev pub RowRests : RunCardSeen → CardRow → Type 0
+RowRests run_card row = RunCardOff run_card row.kept row.pending ⊎ RunCardOn run_card row None
 
 -- a card that is on without a plan has answered a command
-pub record IsAsked (chip : ChipSeen) (card : CardData) (row : CardRow) (command : List ℕ) (lines : List Line) : Type 0 where
+pub record IsAuditAsked (icc : IccSeen) (card : CardData) (row : CardRow) (command : List ℕ) (lines : List Line) : Type 0 where
   pub on :
-      ChipOn chip (row.session ++ record { command = command; answer = (card_answer card.image row.kept row.session command).answer } ∷ [])
+      IccOn icc (row.session ++ record { command = command; answer = (card_answer card.image row.kept row.session command).answer } ∷ [])
       (row.kept ++ (card_answer card.image row.kept row.session command).new) None
       (row.made + length (card_answer card.image row.kept row.session command).new)
   pub none : row.pending ≡ None
@@ -63,6 +63,6 @@ checked_lines card row None choice = audit_power_line card (found_of row.kept ro
 checked_lines card row (Some question) choice =
     audit_lines card (question_command question) (card_answer card.image row.kept row.session (question_command question)).answer
 
-pub record IsChecked (slot : SlotSeen) (card : CardData) (row : CardRow) (question : Option Question) (choice : Bool) (lines : List Line) : Type 0 where
-  pub on : SlotOn slot (checked_row card row question choice) None
+pub record IsChecked (run_card : RunCardSeen) (card : CardData) (row : CardRow) (question : Option Question) (choice : Bool) (lines : List Line) : Type 0 where
+  pub on : RunCardOn run_card (checked_row card row question choice) None
   pub lines_are : lines ≡ checked_lines card row question choice

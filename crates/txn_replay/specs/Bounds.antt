@@ -3,7 +3,7 @@ use Rattle.std.specs.Prelude.{◌≡◌, ℕ, ◌+◌, ◌*◌, ◌≤◌, Bool,
 use Rattle.report_text.specs.declared.line.Line.{Line}
 use Rattle.scenario.specs.Plan.{ScenarioData, IsScenario}
 use Rattle.scenario_lanes.specs.Plan.{LaneData, purchase_count}
-use Rattle.txn_replay.specs.Run.{Place, Reached, ended_count}
+use Rattle.txn_replay.specs.Run.{RunPlace, Reached, ended_count}
 use Rattle.txn_replay.specs.Steps.{settlements, checks}
 use Rattle.txn_replay.specs.World.{LaneRow, World}
 
@@ -27,14 +27,14 @@ pub record IsFew (s : ScenarioData) (w : World) : Type 0 where
 -- so in every world that a run comes to
 abbrev pub WorldsAreFew : Type 0
 WorldsAreFew =
-    (s : ScenarioData) (place : Place) (n : ℕ) (choices : List Bool) (lines : List Line) (w : World)
+    (s : ScenarioData) (place : RunPlace) (n : ℕ) (choices : List Bool) (lines : List Line) (w : World)
     → Reached s place n choices lines w → IsFew s w
 
 -- at most 30,352 steps of the settlement: three copies of 10,000 messages, and for each of 16 lanes an opening and three
 -- copies of seven
 abbrev pub SettlementsAreFew : Type 0
 SettlementsAreFew =
-    (s : ScenarioData) (place : Place) (n : ℕ) (choices : List Bool) (lines : List Line) (w : World)
+    (s : ScenarioData) (place : RunPlace) (n : ℕ) (choices : List Bool) (lines : List Line) (w : World)
     → IsScenario s → Reached s place n choices lines w → length (settlements s w) ≤ 30352
 
 -- and at most 832 steps of an audit: 64 power-ups, and three commands for each of four applications of a card

@@ -4,31 +4,31 @@ use Rattle.card_app.specs.Answering.{card_answer}
 use Rattle.card_pages.specs.Cuts.{Cut, cut_of}
 use Rattle.card_pages.specs.Pages.{found_of}
 use Rattle.card_state.specs.Decisions.{Decided}
-use Rattle.emv_ports.specs.Cut.{is_named}
+use Rattle.emv_ports.specs.Cut.{names_commit}
 use Rattle.emv_ports.specs.declared.tear.Tear.{Tear}
 use Rattle.report_text.specs.declared.line.Line.{Line}
 use Rattle.scenario.specs.Cards.{CardData}
-use Rattle.txn_replay.specs.Changes.{powered, exchanged, told_once, torn}
+use Rattle.txn_replay.specs.Changes.{powered, exchanged, told_once, row_torn}
 use Rattle.txn_replay.specs.Lines.{power_line, power_canned_line, torn_lines, gone_lines}
-use Rattle.txn_replay.specs.Slot.{SlotSeen, SlotOn, SlotOff, HasLost}
+use Rattle.txn_replay.specs.RunCard.{RunCardSeen, RunCardOn, RunCardOff, HasLost}
 use Rattle.txn_replay.specs.World.{Holder, CardRow}
 
 -- no tear cuts the power-up of a card with applications; that of one of canned answers takes no truth value
 abbrev pub IsSpared : Option Tear → Bool → Option (List (List ℕ)) → Type 0
-IsSpared plan choice None = is_named plan 0 ≡ false
+IsSpared plan choice None = names_commit plan 0 ≡ false
 IsSpared plan choice (Some answers) = choice ≡ false
 
 -- it was powered up
-pub record IsPowered (slot : SlotSeen) (card : CardData) (row : CardRow) (plan : Option Tear) (choice : Bool) : Type 0 where
+pub record IsPowered (run_card : RunCardSeen) (card : CardData) (row : CardRow) (plan : Option Tear) (choice : Bool) : Type 0 where
   pub spared : IsSpared plan choice card.canned
-  pub on : (holder : Option Holder) → SlotOn slot (powered row (found_of row.kept row.pending choice) holder) plan
+  pub on : (holder : Option Holder) → RunCardOn run_card (powered row (found_of row.kept row.pending choice) holder) plan
 
 -- or the tear has cut its power in commit 0
-pub record IsLost (slot : SlotSeen) (card : CardData) (row : CardRow) (plan : Option Tear) : Type 0 where
+pub record IsLost (run_card : RunCardSeen) (card : CardData) (row : CardRow) (plan : Option Tear) : Type 0 where
   pub none : card.canned ≡ None
-  pub cut : is_named plan 0 ≡ true
-  pub off : SlotOff slot row.kept row.pending
-  pub losses : HasLost slot (row.losses + 1)
+  pub cut : names_commit plan 0 ≡ true
+  pub off : RunCardOff run_card row.kept row.pending
+  pub losses : HasLost run_card (row.losses + 1)
 
 -- the answer of a card with applications, none of whose decisions is cut, or the next canned one
 abbrev pub AnswerIs : CardData → CardRow → Option Tear → List ℕ → List ℕ → Option (List (List ℕ)) → Type 0
@@ -41,26 +41,26 @@ answered_row card row command None = exchanged card.image row command (card_answ
 answered_row card row command (Some answers) = told_once row
 
 -- it has answered
-pub record IsAnswered (slot : SlotSeen) (card : CardData) (row : CardRow) (plan : Option Tear) (command answer : List ℕ) : Type 0 where
+pub record IsCommandAnswered (run_card : RunCardSeen) (card : CardData) (row : CardRow) (plan : Option Tear) (command answer : List ℕ) : Type 0 where
   pub said : AnswerIs card row plan command answer card.canned
-  pub on : SlotOn slot (answered_row card row command card.canned) plan
+  pub on : RunCardOn run_card (answered_row card row command card.canned) plan
 
 -- the tear has cut one of its decisions
-pub record IsCut (slot : SlotSeen) (card : CardData) (row : CardRow) (plan : Option Tear) (command : List ℕ) (at : Cut) : Type 0 where
+pub record IsCommandCut (run_card : RunCardSeen) (card : CardData) (row : CardRow) (plan : Option Tear) (command : List ℕ) (at : Cut) : Type 0 where
   pub cut : cut_of plan row.made (card_answer card.image row.kept row.session command).new ≡ Some at
-  pub off : SlotOff slot (torn row plan at).kept (torn row plan at).pending
-  pub losses : HasLost slot (row.losses + 1)
+  pub off : RunCardOff run_card (row_torn row plan at).kept (row_torn row plan at).pending
+  pub losses : HasLost run_card (row.losses + 1)
 
 -- no canned answer was left
-pub record IsEmpty (slot : SlotSeen) (row : CardRow) (answers : List (List ℕ)) : Type 0 where
+pub record IsEmpty (run_card : RunCardSeen) (row : CardRow) (answers : List (List ℕ)) : Type 0 where
   pub none : slice_get answers row.told ≡ None
-  pub off : SlotOff slot row.kept row.pending
-  pub losses : HasLost slot row.losses
+  pub off : RunCardOff run_card row.kept row.pending
+  pub losses : HasLost run_card row.losses
 
 -- it is gone in place of an answer
-abbrev pub IsGone : SlotSeen → CardData → CardRow → Option Tear → List ℕ → Option (List (List ℕ)) → Type 0
-IsGone slot card row plan command None = (at : Cut) × IsCut slot card row plan command at
-IsGone slot card row plan command (Some answers) = IsEmpty slot row answers
+abbrev pub IsCardGone : RunCardSeen → CardData → CardRow → Option Tear → List ℕ → Option (List (List ℕ)) → Type 0
+IsCardGone run_card card row plan command None = (at : Cut) × IsCommandCut run_card card row plan command at
+IsCardGone run_card card row plan command (Some answers) = IsEmpty run_card row answers
 
 -- the line of a power-up, and those of a command behind which the card is gone
 abbrev pub powered_line : ℕ → CardData → List Decided → Option (List (List ℕ)) → Line

@@ -24,7 +24,7 @@ use Rattle.report_text.specs.declared.line.Line.TheVariants.{SettleCall, EndLost
 use Rattle.scenario.specs.Plan.{ScenarioData}
 use Rattle.txn_replay.specs.Counting.{lost_count}
 use Rattle.txn_replay.specs.Payment.{dialect_of, durable_of}
-use Rattle.txn_replay.specs.Run.{Place, Reached, Run}
+use Rattle.txn_replay.specs.Run.{RunPlace, Reached, Run}
 use Rattle.txn_replay.specs.World.{Past, World, lane_at}
 
 -- what purchases captured, and whether they were lost
@@ -51,9 +51,9 @@ unfoldable pub all_settled_told : ℕ → List Line → List (List ℕ)
 all_settled_told l lines = flat_map (settled_told l) lines
 
 -- the reply of these bytes has code 00
-abbrev pub approves : Result ReplyData MessageFault → Bool
-approves (Err fault) = false
-approves (Ok reply) = bytes_eq reply.code (code_bytes Approved)
+abbrev pub is_reply_approved : Result ReplyData MessageFault → Bool
+is_reply_approved (Err fault) = false
+is_reply_approved (Ok reply) = bytes_eq reply.code (code_bytes Approved)
 
 -- one of the messages up to this place books the transaction
 pub record IsBookedBy (keys : HostKeys) (accounts : List AccountData) (messages : List (List ℕ)) (key : Key) (place : ℕ) : Type 0 where
@@ -67,7 +67,7 @@ pub record IsDelivered (keys : HostKeys) (accounts : List AccountData) (messages
   pub place : ℕ
   pub there : slice_get messages place ≡ Some message
   pub booked : (at : ℕ) (fields : PresentData) → slice_get messages at ≡ Some message → message_of message ≡ Ok (Present fields)
-      → approves (reply_of (host_reply keys accounts (take at messages) message)) ≡ true → IsBookedBy keys accounts messages (present_key fields) at
+      → is_reply_approved (reply_of (host_reply keys accounts (take at messages) message)) ≡ true → IsBookedBy keys accounts messages (present_key fields) at
 
 -- each capture of a purchase that wasn't lost was sent whole, in the order of the purchases, each copy; that of a lost purchase
 -- whole or never; one may be sent again, as its drop may be lost. What was sent came to the host.
@@ -93,7 +93,7 @@ AreLostAsTold lines w = (l : ℕ) → lost_count (lane_at w l).ended ≡ count_b
 
 abbrev pub LostAreTold : Type 0
 LostAreTold =
-    (s : ScenarioData) (place : Place) (n : ℕ) (choices : List Bool) (lines : List Line) (w : World)
+    (s : ScenarioData) (place : RunPlace) (n : ℕ) (choices : List Bool) (lines : List Line) (w : World)
     → Reached s place n choices lines w → AreLostAsTold lines w
 
 -- so it is of whole runs

@@ -6,13 +6,13 @@ use Rattle.card_app.specs.Session.{phase_of}
 use Rattle.card_cryptogram.specs.Phases.{current}
 use Rattle.card_files.specs.Files.{opening_of}
 use Rattle.card_files.specs.Views.{ImageData}
-use Rattle.card_pages.specs.Cuts.{Cut, left_of, kept_by, pending_by}
+use Rattle.card_pages.specs.Cuts.{Cut, fate_by, kept_by, pending_by}
 use Rattle.card_pages.specs.Replies.{CardAnswer}
 use Rattle.card_state.specs.Decisions.{Decided}
 use Rattle.card_state.specs.Totals.{totals}
 use Rattle.card_state.specs.declared.state.AppState.{AppState}
 use Rattle.emv_ports.specs.declared.tear.Tear.{Tear}
-use Rattle.txn_replay.specs.World.{Holder, Given, Found, Answering, Breaking, CardRow}
+use Rattle.txn_replay.specs.World.{Holder, CryptogramGiven, Found, Answering, Breaking, CardRow}
 
 -- GENERATE AC (EMV 4.3 Book 3 section 6.5.5)
 abbrev pub is_generate : Option CommandData → Bool
@@ -24,22 +24,22 @@ abbrev pub is_good : Option ResponseData → Bool
 is_good None = false
 is_good (Some r) = r.status == 0x9000
 
-abbrev pub counter_in : Option AppState → ℕ
-counter_in None = 0
-counter_in (Some s) = s.counter
+abbrev pub counter_or_zero : Option AppState → ℕ
+counter_or_zero None = 0
+counter_or_zero (Some s) = s.counter
 
 -- the transaction counter of an application behind these decisions
-unfoldable pub counter_of : ImageData → List Decided → ℕ → ℕ
-counter_of image ds app = counter_in (slice_get (totals (opening_of image) ds).apps.items app)
+unfoldable pub app_counter : ImageData → List Decided → ℕ → ℕ
+app_counter image ds app = counter_or_zero (slice_get (totals (opening_of image) ds).apps.items app)
 
 -- the cryptogram of the selected application
-abbrev pub given_for : ImageData → List Decided → Option ℕ → Option Holder → List Given
-given_for image ds (Some app) (Some holder) = record { app = app; counter = counter_of image ds app; holder = holder } ∷ []
+abbrev pub given_for : ImageData → List Decided → Option ℕ → Option Holder → List CryptogramGiven
+given_for image ds (Some app) (Some holder) = record { app = app; counter = app_counter image ds app; holder = holder } ∷ []
 given_for image ds (Some app) None = []
 given_for image ds None holder = []
 
 -- what a GENERATE AC that is answered 9000 gives
-abbrev pub given_by : ImageData → CardRow → List ℕ → CardAnswer → List Given
+abbrev pub given_by : ImageData → CardRow → List ℕ → CardAnswer → List CryptogramGiven
 given_by image card command said =
     if is_generate (command_of command) && is_good (response_of said.answer)
     then given_for image (card.kept ++ said.new) (current (phase_of image card.session)) card.holder else []
@@ -77,10 +77,10 @@ abbrev pub told_once : CardRow → CardRow
 told_once card = record card { told = card.told + 1 }
 
 -- the tear cuts one of the decisions for a command
-abbrev pub torn : CardRow → Option Tear → Cut → CardRow
-torn card tear cut = record {
-  kept = kept_by (left_of tear) card.kept cut;
-  pending = pending_by (left_of tear) cut;
+abbrev pub row_torn : CardRow → Option Tear → Cut → CardRow
+row_torn card tear cut = record {
+  kept = kept_by (fate_by tear) card.kept cut;
+  pending = pending_by (fate_by tear) cut;
   session = card.session;
   made = card.made;
   told = card.told;

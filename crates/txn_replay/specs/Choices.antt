@@ -6,7 +6,7 @@ use Rattle.emv_ports.specs.declared.tear.TearAt.TheVariants.{Before, Within, Rel
 use Rattle.report_text.specs.declared.line.Line.{Line}
 use Rattle.scenario.specs.Plan.{ScenarioData, IsScenario}
 use Rattle.txn_replay.specs.Payment.{Payment, payment_in}
-use Rattle.txn_replay.specs.Run.{Place, Reached, Run}
+use Rattle.txn_replay.specs.Run.{RunPlace, Reached, Run}
 use Rattle.txn_replay.specs.World.{World, card_at, lane_at}
 
 -- nothing of a decision or a call that is cut before its first write is left, and one whose release is cut is kept
@@ -35,7 +35,7 @@ pub record IsClosed (w : World) : Type 0 where
 
 abbrev pub NoneIsOpen : Type 0
 NoneIsOpen =
-    (s : ScenarioData) (place : Place) (n : ℕ) (choices : List Bool) (lines : List Line) (w : World)
+    (s : ScenarioData) (place : RunPlace) (n : ℕ) (choices : List Bool) (lines : List Line) (w : World)
     → LeavesNone s → Reached s place n choices lines w → IsClosed w
 
 -- two runs have the same lines, and lead to the same world

@@ -3,7 +3,7 @@ use Rattle.std.specs.Prelude.{ℕ, ◌-◌, ◌^◌, min, Bool, true, false, not
 use Rattle.emv_dict.specs.declared.ending.Ending.{Ending}
 use Rattle.emv_dict.specs.declared.ending.Ending.TheVariants.{Approved, Declined, Terminated, CutOff}
 use Rattle.kernel.specs.Ended.{EndData}
-use Rattle.kernel.specs.Laws.{approves}
+use Rattle.kernel.specs.Laws.{is_approved_ending}
 use Rattle.kernel.specs.Tally.{Counts}
 use Rattle.txn_replay.specs.World.{Past, World}
 
@@ -14,8 +14,8 @@ is_declined (Terminated step cause) = false
 is_declined (CutOff step) = false
 
 -- numbers stop at the greatest one of 64 bits
-abbrev pub capped : ℕ → ℕ
-capped n = min n (2 ^ 64 - 1)
+abbrev pub capped_at_64 : ℕ → ℕ
+capped_at_64 n = min n (2 ^ 64 - 1)
 
 abbrev pub all_ended : World → List Past
 all_ended w = flat_map (λ lane. lane.ended) w.lanes
@@ -26,15 +26,15 @@ ended_so test None = false
 ended_so test (Some end) = test end.ending
 
 abbrev pub is_other : Ending → Bool
-is_other ending = not (approves ending || is_declined ending)
+is_other ending = not (is_approved_ending ending || is_declined ending)
 
 -- those that were approved, those that were declined, all others, and the replies of them all
 abbrev pub counts_of : List Past → Counts
 counts_of ended = record {
-  approved = capped (count_by (λ past. ended_so approves past.end) ended);
-  declined = capped (count_by (λ past. ended_so is_declined past.end) ended);
-  other = capped (count_by (λ past. ended_so is_other past.end) ended);
-  replies = capped (sum_by (λ past. length past.replies) ended);
+  approved = capped_at_64 (count_by (λ past. ended_so is_approved_ending past.end) ended);
+  declined = capped_at_64 (count_by (λ past. ended_so is_declined past.end) ended);
+  other = capped_at_64 (count_by (λ past. ended_so is_other past.end) ended);
+  replies = capped_at_64 (sum_by (λ past. length past.replies) ended);
 }
 
 abbrev pub counts : World → Counts

@@ -1,5 +1,6 @@
 pub mod World
 pub mod Payment
+pub mod PaymentFits
 pub mod Lines
 pub mod Changes
 pub mod Part
@@ -12,7 +13,7 @@ pub mod Counting
 pub mod Sound
 pub mod Laws
 pub mod Telling
-pub mod Told
+pub mod ToldByLines
 pub mod Choices
 pub mod Bounds
 pub mod Stored
@@ -23,8 +24,9 @@ pub mod Settling
 pub mod Audited
 pub mod Banked
 pub mod Seen
-pub mod Slot
-pub mod SeenSlot
+pub mod RunCard
+pub mod SeenRunCard
+pub mod SameIcc
 pub mod Called
 pub mod PagesTell
 pub mod Respelled

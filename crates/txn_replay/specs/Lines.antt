@@ -52,12 +52,12 @@ host_lines iso lane message reply = wire_lines lane (call_in iso message) (optio
 abbrev pub end_parts : EndData → EndParts
 end_parts end = record {
   ending = end.ending;
-  tvr = record { 0 = end.moment.tvr };
-  tsi = record { 0 = end.moment.tsi };
-  cvm = end.moment.results;
-  arc = end.moment.code;
-  atc_ac = option_map (λ ac. (ac.counter, ac.cryptogram)) end.moment.last;
-  scripts = record { items = end.moment.scripts };
+  tvr = record { 0 = end.state_so_far.tvr };
+  tsi = record { 0 = end.state_so_far.tsi };
+  cvm = end.state_so_far.results;
+  arc = end.state_so_far.code;
+  atc_ac = option_map (λ ac. (ac.counter, ac.cryptogram)) end.state_so_far.last;
+  scripts = record { items = end.state_so_far.scripts };
 }
 
 -- the lane's purchase of this number, from 1, has ended

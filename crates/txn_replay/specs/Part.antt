@@ -1,6 +1,6 @@
 -- One exchange of a lane, on what it touches (this project's own).
 use Rattle.std.specs.Prelude.{ℕ, ◌+◌, Bool, true, false, ◌&&◌, if◌then◌else◌, List, [], ◌∷◌, ◌++◌, length, slice_get, Option, Some, None, option_to_list}
-use Rattle.capture_store.specs.StoreRow.{StoreRow, is_cut, ended_by}
+use Rattle.capture_store.specs.StoreRow.{StoreRow, is_next_cut, ended_by}
 use Rattle.card_app.specs.Answering.{card_answer}
 use Rattle.card_pages.specs.Cuts.{Cut, cut_of}
 use Rattle.card_pages.specs.Pages.{found_of}
@@ -10,7 +10,7 @@ use Rattle.emv_dict.specs.Views.{PurchaseData}
 use Rattle.emv_dict.specs.declared.ending.Ending.{Ending}
 use Rattle.emv_dict.specs.declared.ending.Ending.TheVariants.{Approved, Declined, Terminated, CutOff}
 use Rattle.emv_dict.specs.declared.purchase.Logged.{Logged}
-use Rattle.emv_ports.specs.Cut.{is_named}
+use Rattle.emv_ports.specs.Cut.{names_commit}
 use Rattle.emv_ports.specs.declared.tear.Tear.{Tear}
 use Rattle.host_link.specs.Delivery.{delivered, heard}
 use Rattle.issuer_host.specs.History.{host_reply}
@@ -19,9 +19,9 @@ use Rattle.kernel.specs.Ended.{EndData}
 use Rattle.kernel.specs.Reply.{Reply, CardSaid, CardGone, from_host, Deed, ToCard, ToHost, Over}
 use Rattle.object_lists.specs.CardRead.{ReadCard}
 use Rattle.report_text.specs.declared.line.Line.{Line}
-use Rattle.txn_replay.specs.Changes.{powered, exchanged, told_once, torn, lost, freed}
+use Rattle.txn_replay.specs.Changes.{powered, exchanged, told_once, row_torn, lost, freed}
 use Rattle.txn_replay.specs.Lines.{power_line, power_canned_line, power_torn_line, answer_lines, torn_lines, gone_lines, host_lines, outcome_line}
-use Rattle.txn_replay.specs.Payment.{Payment, deal_for, end_at}
+use Rattle.txn_replay.specs.Payment.{Payment, outset_for, end_at}
 use Rattle.txn_replay.specs.World.{Holder, CardRow, LaneRow, with_sent}
 
 -- the lane, the card of its purchase, and the messages that came to the host
@@ -40,8 +40,8 @@ abbrev pub still : Part → Moved
 still part = record { part = part; lines = []; choices = 0 }
 
 -- one truth value was taken
-abbrev pub chosen : Moved → Moved
-chosen moved = record moved { choices = 1 }
+abbrev pub with_one_choice : Moved → Moved
+with_one_choice moved = record moved { choices = 1 }
 
 -- an approval joins the terminal's log, under the number of the card's account
 abbrev pub approval : PurchaseData → Ending → Option ReadCard → List Logged
@@ -54,7 +54,7 @@ approval purchase (CutOff step) card = []
 -- the power of a terminal is cut as its store adds this capture
 abbrev pub loses_by : Option Tear → StoreRow → Option (List ℕ) → Bool
 loses_by plan store None = false
-loses_by plan store (Some message) = is_cut plan store
+loses_by plan store (Some message) = is_next_cut plan store
 
 abbrev pub loses : Payment → StoreRow → Option (List ℕ) → Bool
 loses p store capture = p.durable && loses_by p.planned.terminal_tear store capture
@@ -79,16 +79,16 @@ ended_with p replies end part lines = record {
 }
 
 -- it goes on with these replies
-abbrev pub goes_on : List Reply → Part → List Line → Moved
-goes_on replies part lines = record { part = record part { lane = record part.lane { running = Some replies } }; lines = lines; choices = 0 }
+abbrev pub dialogue_goes_on : List Reply → Part → List Line → Moved
+dialogue_goes_on replies part lines = record { part = record part { lane = record part.lane { running = Some replies } }; lines = lines; choices = 0 }
 
 -- it ends where its dialogue is over
-abbrev pub settled_by : Payment → List Reply → Part → List Line → Option EndData → Moved
-settled_by p replies part lines None = goes_on replies part lines
-settled_by p replies part lines (Some end) = ended_with p replies end part lines
+abbrev pub ended_by_record : Payment → List Reply → Part → List Line → Option EndData → Moved
+ended_by_record p replies part lines None = dialogue_goes_on replies part lines
+ended_by_record p replies part lines (Some end) = ended_with p replies end part lines
 
-abbrev pub settled : Payment → List Reply → Part → List Line → Moved
-settled p replies part lines = settled_by p replies part lines (end_at p replies)
+abbrev pub ended_if_over : Payment → List Reply → Part → List Line → Moved
+ended_if_over p replies part lines = ended_by_record p replies part lines (end_at p replies)
 
 -- the card is gone, with which every dialogue ends: `cut` is what the cut left
 abbrev pub cut_ends : Payment → List Reply → Part → Part → List Line → Option EndData → Moved
@@ -100,27 +100,27 @@ cut_short p replies part card lines =
     cut_ends p (replies ++ CardGone ∷ []) part (record part { card = card }) lines (end_at p (replies ++ CardGone ∷ []))
 
 -- the card answers, or the plan cuts one of its decisions
-abbrev pub answered : Payment → List Reply → List ℕ → Part → CardAnswer → Option Cut → Moved
-answered p replies command part said None =
-    settled p (replies ++ CardSaid said.answer part.lane.log ∷ []) (record part { card = exchanged p.card.image part.card command said })
+abbrev pub lane_answered_by : Payment → List Reply → List ℕ → Part → CardAnswer → Option Cut → Moved
+lane_answered_by p replies command part said None =
+    ended_if_over p (replies ++ CardSaid said.answer part.lane.log ∷ []) (record part { card = exchanged p.card.image part.card command said })
     (answer_lines p.lane command said.answer)
-answered p replies command part said (Some cut) = cut_short p replies part (torn part.card p.planned.tear cut) (torn_lines p.lane command)
+lane_answered_by p replies command part said (Some cut) = cut_short p replies part (row_torn part.card p.planned.tear cut) (torn_lines p.lane command)
 
 abbrev pub card_by : Payment → List Reply → List ℕ → Part → CardAnswer → Moved
-card_by p replies command part said = answered p replies command part said (cut_of p.planned.tear part.card.made said.new)
+card_by p replies command part said = lane_answered_by p replies command part said (cut_of p.planned.tear part.card.made said.new)
 
 -- a card of canned answers gives the next of them, and is gone where none is left
 abbrev pub canned_by : Payment → List Reply → List ℕ → Part → Option (List ℕ) → Moved
 canned_by p replies command part (Some answer) =
-    settled p (replies ++ CardSaid answer part.lane.log ∷ []) (record part { card = told_once part.card }) (answer_lines p.lane command answer)
+    ended_if_over p (replies ++ CardSaid answer part.lane.log ∷ []) (record part { card = told_once part.card }) (answer_lines p.lane command answer)
 canned_by p replies command part None = cut_short p replies part part.card (gone_lines p.lane command)
 
-abbrev pub asked_by : Payment → List Reply → List ℕ → Part → Option (List (List ℕ)) → Moved
-asked_by p replies command part None = card_by p replies command part (card_answer p.card.image part.card.kept part.card.session command)
-asked_by p replies command part (Some answers) = canned_by p replies command part (slice_get answers part.card.told)
+abbrev pub asked_of_card : Payment → List Reply → List ℕ → Part → Option (List (List ℕ)) → Moved
+asked_of_card p replies command part None = card_by p replies command part (card_answer p.card.image part.card.kept part.card.session command)
+asked_of_card p replies command part (Some answers) = canned_by p replies command part (slice_get answers part.card.told)
 
 abbrev pub asked_card : Payment → List Reply → List ℕ → Part → Moved
-asked_card p replies command part = asked_by p replies command part p.card.canned
+asked_card p replies command part = asked_of_card p replies command part p.card.canned
 
 -- a message is made for the host, and comes to it or is lost
 abbrev pub sending : Payment → List ℕ → Part → Part
@@ -132,7 +132,7 @@ sending p message part = record {
 
 abbrev pub host_by : Payment → List Reply → List ℕ → Part → Option (List ℕ) → Moved
 host_by p replies message part reply =
-    settled p (replies ++ from_host reply ∷ []) (sending p message part) (host_lines p.iso p.lane message reply)
+    ended_if_over p (replies ++ from_host reply ∷ []) (sending p message part) (host_lines p.iso p.lane message reply)
 
 abbrev pub asked_host : Payment → List Reply → List ℕ → Part → Moved
 asked_host p replies message part =
@@ -153,7 +153,7 @@ on_for p began found part = record {
 }
 
 abbrev pub powered_up : Payment → Part → List Decided → Moved
-powered_up p part found = chosen (settled p [] (on_for p (Some found) found part) (power_line p.lane p.card found ∷ []))
+powered_up p part found = with_one_choice (ended_if_over p [] (on_for p (Some found) found part) (power_line p.lane p.card found ∷ []))
 
 -- a tear in commit 0 cuts it, and leaves the card's decisions as they were
 abbrev pub begun_by : Payment → Part → Bool → Bool → Moved
@@ -163,20 +163,20 @@ begun_by p part choice false = powered_up p part (found_of part.card.kept part.c
 -- a card of canned answers decides nothing: no tear cuts its power-up, and no truth value is taken
 abbrev pub begun_canned : Payment → Part → Moved
 begun_canned p part =
-    settled p [] (on_for p None (found_of part.card.kept part.card.pending false) part) (power_canned_line p.lane p.card ∷ [])
+    ended_if_over p [] (on_for p None (found_of part.card.kept part.card.pending false) part) (power_canned_line p.lane p.card ∷ [])
 
 abbrev pub begun_with : Payment → Part → Bool → Option (List (List ℕ)) → Moved
-begun_with p part choice None = begun_by p part choice (is_named p.planned.tear 0)
+begun_with p part choice None = begun_by p part choice (names_commit p.planned.tear 0)
 begun_with p part choice (Some answers) = begun_canned p part
 
 -- a purchase begins where none has its card
-abbrev pub begun : Payment → Part → Bool → Option Holder → Moved
-begun p part choice None = begun_with p part choice p.card.canned
-begun p part choice (Some holder) = still part
+abbrev pub purchase_begun : Payment → Part → Bool → Option Holder → Moved
+purchase_begun p part choice None = begun_with p part choice p.card.canned
+purchase_begun p part choice (Some holder) = still part
 
 abbrev pub piece_by : Payment → Part → Bool → Option (List Reply) → Moved
-piece_by p part choice None = begun p part choice part.card.holder
-piece_by p part choice (Some replies) = asked p replies part (dialogue (deal_for p) replies).deed
+piece_by p part choice None = purchase_begun p part choice part.card.holder
+piece_by p part choice (Some replies) = asked p replies part (dialogue (outset_for p) replies).deed
 
 -- one exchange of a lane whose store, where it has one, is open
 abbrev pub piece : Payment → Part → Bool → Moved

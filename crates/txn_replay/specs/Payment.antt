@@ -10,7 +10,7 @@ use Rattle.scenario.specs.Cards.{CardData}
 use Rattle.scenario.specs.Plan.{ScenarioData}
 use Rattle.scenario_lanes.specs.Plan.{LaneData}
 use Rattle.scenario_lanes.specs.declared.plan.Planned.{Planned}
-use Rattle.terminal_state.specs.Terminal.{Deal}
+use Rattle.terminal_state.specs.Terminal.{Outset}
 use Rattle.txn_replay.specs.World.{World, lane_at}
 
 -- the issuer, how often a settlement message is sent, the lane's number, whether it speaks ISO 8583 with the host and
@@ -69,9 +69,9 @@ durable_of s l = is_durable (slice_get s.lanes l)
 abbrev pub next_of : ScenarioData → World → ℕ → Option Payment
 next_of s w l = payment_in s l (length (lane_at w l).ended)
 
-abbrev pub deal_for : Payment → Deal
-deal_for p = record { settings = p.settings; purchase = p.planned.purchase }
+abbrev pub outset_for : Payment → Outset
+outset_for p = record { settings = p.settings; purchase = p.planned.purchase }
 
 -- its end record once the terminal was told these replies, where its dialogue is over
 abbrev pub end_at : Payment → List Reply → Option EndData
-end_at p replies = end_of (deal_for p) (dialogue (deal_for p) replies)
+end_at p replies = end_of (outset_for p) (dialogue (outset_for p) replies)

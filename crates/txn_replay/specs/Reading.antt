@@ -9,8 +9,8 @@ use Rattle.report_text.specs.declared.line.Line.TheVariants as line
 use Rattle.scenario.specs.Plan.{ScenarioData}
 use Rattle.scenario_lanes.specs.Plan.{LaneData}
 use Rattle.scenario_lanes.specs.declared.plan.Planned.{Planned}
-use Rattle.terminal_state.specs.Marks.{latest, card_of}
-use Rattle.txn_replay.specs.Payment.{Payment, deal_for, next_of}
+use Rattle.terminal_state.specs.StepResults.{latest, sets_card}
+use Rattle.txn_replay.specs.Payment.{Payment, outset_for, next_of}
 use Rattle.txn_replay.specs.Steps.{Step}
 use Rattle.txn_replay.specs.World.{Past, World, first_world, lane_at}
 use Rattle.txn_replay.specs.declared.event.Event.TheVariants.{Turn}
@@ -32,7 +32,7 @@ to_read s = record s { lanes = lane_untorn s.lanes }
 
 -- what reading gave in this purchase, where it is finished
 abbrev pub data_after : List Reply → Payment → Option ReadCard
-data_after replies p = latest card_of None (dialogue (deal_for p) replies).marks
+data_after replies p = latest sets_card None (dialogue (outset_for p) replies).steps_done
 
 abbrev pub last_past : List Past → Option Past
 last_past [] = None

@@ -7,7 +7,7 @@ use Rattle.report_text.specs.declared.line.Line.TheVariants.{ToHost, FromHost, N
 use Rattle.scenario.specs.Plan.{ScenarioData}
 use Rattle.scenario_lanes.specs.Plan.{LaneData}
 use Rattle.txn_replay.specs.Payment.{dialect_of}
-use Rattle.txn_replay.specs.Run.{Place, Reached, Run}
+use Rattle.txn_replay.specs.Run.{RunPlace, Reached, Run}
 use Rattle.txn_replay.specs.World.{World}
 
 -- the scenario with these dialects for its lanes, the first of which has this number
@@ -46,7 +46,7 @@ pub data AreRespelled (before after : ℕ → Bool) : List Line → List Line �
 -- with the same truth values the same world is reached in as many events, and with it each ending and each balance
 abbrev pub DialectsShow : Type 0
 DialectsShow =
-    (s : ScenarioData) (iso : ℕ → Bool) (place : Place) (n : ℕ) (choices : List Bool) (lines : List Line) (w : World)
+    (s : ScenarioData) (iso : ℕ → Bool) (place : RunPlace) (n : ℕ) (choices : List Bool) (lines : List Line) (w : World)
     → Reached s place n choices lines w
     → (others : List Line) × Reached (in_dialects iso s) place n choices others w
     × AreRespelled (dialect_of s) (dialect_of (in_dialects iso s)) lines others

@@ -24,15 +24,15 @@ abbrev pub all_over : ScenarioData → World → Bool
 all_over s w = all_below s w (length s.lanes)
 
 -- how far a run is
-pub data Place : Type 0 where
-  Scheduled : ℕ → Place
-  Round : ℕ → Place
-  Settling : ℕ → Place
-  Auditing : ℕ → Place
-  Finished : Place
+pub data RunPlace : Type 0 where
+  Scheduled : ℕ → RunPlace
+  Round : ℕ → RunPlace
+  Settling : ℕ → RunPlace
+  Auditing : ℕ → RunPlace
+  Finished : RunPlace
 
 -- a run has come to this place after so many events, with these truth values, these lines and this world
-pub data Reached (s : ScenarioData) : Place → ℕ → List Bool → List Line → World → Type 0 where
+pub data Reached (s : ScenarioData) : RunPlace → ℕ → List Bool → List Line → World → Type 0 where
   start : Reached s (Scheduled 0) 0 [] [] (first_world s)
   scheduled : {k l n : ℕ} {cs c : List Bool} {ls new : List Line} {w w' : World} →
       Reached s (Scheduled k) n cs ls w → slice_get s.schedule k ≡ Some l → Step s w (Turn l) c new w' →

@@ -2,7 +2,7 @@
 use Rattle.std.specs.Prelude.{◌≡◌, ◌⊎◌, ℕ, zero, suc, ◌+◌, ◌-◌, ◌≤◌, Bool, true, false, ◌&&◌, ◌==◌, nat_le, is_none, List, [], length, sum_by, count_by, slice_get, Option, Some, None}
 use Rattle.std.specs.List.{All}
 use Rattle.capture_store.specs.ListPages.{MayStandForList}
-use Rattle.capture_store.specs.SeenShelf.{ShelfSeen}
+use Rattle.capture_store.specs.SeenLaneStore.{LaneStoreSeen}
 use Rattle.card_files.specs.Files.{opening_of}
 use Rattle.card_pages.specs.Pages.{MayStand}
 use Rattle.emv_ports.specs.Memory.{Memory, IsBlank}
@@ -14,13 +14,13 @@ use Rattle.scenario.specs.Cards.{CardData}
 use Rattle.scenario.specs.Plan.{ScenarioData, IsScenario}
 use Rattle.scenario_lanes.specs.Plan.{LaneData, last_pages}
 use Rattle.txn_replay.specs.Bounds.{IsFewIn}
-use Rattle.txn_replay.specs.Counting.{capped, counts, lost_count}
+use Rattle.txn_replay.specs.Counting.{capped_at_64, counts, lost_count}
 use Rattle.txn_replay.specs.Payment.{Payment, payment_in, durable_of}
 use Rattle.txn_replay.specs.Run.{all_over}
-use Rattle.txn_replay.specs.Slot.{SlotSeen, SlotOn, IsSlotOf, HasLost, is_on}
-use Rattle.txn_replay.specs.Sound.{IsSound}
+use Rattle.txn_replay.specs.RunCard.{RunCardSeen, RunCardOn, IsRunCardOf, HasLost, run_card_is_powered}
+use Rattle.txn_replay.specs.Sound.{IsWorldSound}
 use Rattle.txn_replay.specs.StandAlone.{ComesApart}
-use Rattle.txn_replay.specs.Standing.{RunStands, LaneKeeps, CardStands, ShelfFor, LaneFits, SameLane, lane_left, shelf_left}
+use Rattle.txn_replay.specs.Standing.{RunStands, LaneKeeps, CardStands, LaneStoreFor, LaneFits, SameLane, lane_left, lane_store_left}
 use Rattle.txn_replay.specs.Steps.{Asks, checks, Step}
 use Rattle.txn_replay.specs.Stored.{StoresStand, IsSettledTo}
 use Rattle.txn_replay.specs.World.{Holder, CardRow, LaneRow, World, card_at, lane_at}
@@ -29,10 +29,10 @@ use Rattle.txn_replay.specs.declared.lane.Lane.{Lane}
 
 pub record WorldSeen : Type 0 where
   pub scenario : ScenarioData
-  pub slots : List SlotSeen
+  pub run_cards : List RunCardSeen
   pub lanes : List Lane
   -- the store of each lane, where it has one
-  pub shelves : List ShelfSeen
+  pub lane_stores : List LaneStoreSeen
   pub host : HostData
   pub tally : Counts
   -- the pages that no card and no store has
@@ -41,10 +41,10 @@ pub record WorldSeen : Type 0 where
 -- nothing is another, but that a lane may have more room than before
 pub record IsUnmoved (old new : WorldSeen) : Type 0 where
   pub scenario : new.scenario ≡ old.scenario
-  pub slots : new.slots ≡ old.slots
+  pub run_cards : new.run_cards ≡ old.run_cards
   pub lane_count : length new.lanes ≡ length old.lanes
   pub lanes : (l : ℕ) (later : Lane) → slice_get new.lanes l ≡ Some later → (lane : Lane) × (slice_get old.lanes l ≡ Some lane) × SameLane lane later
-  pub shelves : new.shelves ≡ old.shelves
+  pub lane_stores : new.lane_stores ≡ old.lane_stores
   pub host : new.host ≡ old.host
   pub tally : new.tally ≡ old.tally
   pub spare : new.spare ≡ old.spare
@@ -59,23 +59,23 @@ plan_for s None = None
 plan_for s (Some holder) = plan_in (payment_in s holder.lane holder.number)
 
 -- a card that the audit has turned on: no purchase has it, and there is no plan
-pub record IsAudited (s : ScenarioData) (w : World) (slot : SlotSeen) (card : CardData) (row : CardRow) : Type 0 where
+pub record IsAudited (s : ScenarioData) (w : World) (run_card : RunCardSeen) (card : CardData) (row : CardRow) : Type 0 where
   pub over : all_over s w ≡ true
-  pub is : IsSlotOf slot card
-  pub losses : HasLost slot row.losses
+  pub is : IsRunCardOf run_card card
+  pub losses : HasLost run_card row.losses
   pub free : row.holder ≡ None
-  pub on : SlotOn slot row None
+  pub on : RunCardOn run_card row None
 
-abbrev pub SlotStands : ScenarioData → World → SlotSeen → CardData → CardRow → Type 0
-SlotStands s w slot card row = CardStands slot card (plan_for s row.holder) row ⊎ IsAudited s w slot card row
+abbrev pub RunCardStands : ScenarioData → World → RunCardSeen → CardData → CardRow → Type 0
+RunCardStands s w run_card card row = CardStands run_card card (plan_for s row.holder) row ⊎ IsAudited s w run_card card row
 
 -- the plan under which a lane's store is opened: that of the purchase behind those that have ended
 abbrev pub terminal_plan : Option Payment → Option Tear
 terminal_plan None = None
 terminal_plan (Some p) = p.planned.terminal_tear
 
-abbrev pub ShelfAt : ScenarioData → ℕ → ShelfSeen → LaneRow → Type 0
-ShelfAt s l shelf row = ShelfFor shelf row (terminal_plan (payment_in s l (length row.ended))) (durable_of s l)
+abbrev pub LaneStoreAt : ScenarioData → ℕ → LaneStoreSeen → LaneRow → Type 0
+LaneStoreAt s l lane_store row = LaneStoreFor lane_store row (terminal_plan (payment_in s l (length row.ended))) (durable_of s l)
 
 -- a terminal that runs the purchase behind those that have ended, or none
 abbrev pub RunFor : Lane → LaneRow → Option Payment → Type 0
@@ -87,12 +87,12 @@ pub record LaneAt (s : ScenarioData) (l : ℕ) (lane : Lane) (row : LaneRow) : T
   pub runs : RunFor lane row (payment_in s l (length row.ended))
 
 pub record WorldStands (v : WorldSeen) (w : World) : Type 0 where
-  pub sound : IsSound v.scenario w
+  pub sound : IsWorldSound v.scenario w
   pub few : (l : ℕ) → IsFewIn v.scenario l (lane_at w l)
-  pub slots : (i : ℕ) (slot : SlotSeen) (card : CardData) → slice_get v.slots i ≡ Some slot → slice_get v.scenario.cards i ≡ Some card
-      → SlotStands v.scenario w slot card (card_at w i)
+  pub run_cards : (i : ℕ) (run_card : RunCardSeen) (card : CardData) → slice_get v.run_cards i ≡ Some run_card → slice_get v.scenario.cards i ≡ Some card
+      → RunCardStands v.scenario w run_card card (card_at w i)
   pub lanes : (l : ℕ) (lane : Lane) → slice_get v.lanes l ≡ Some lane → LaneAt v.scenario l lane (lane_at w l)
-  pub shelves : (l : ℕ) (shelf : ShelfSeen) → slice_get v.shelves l ≡ Some shelf → ShelfAt v.scenario l shelf (lane_at w l)
+  pub lane_stores : (l : ℕ) (lane_store : LaneStoreSeen) → slice_get v.lane_stores l ≡ Some lane_store → LaneStoreAt v.scenario l lane_store (lane_at w l)
   pub stored : StoresStand v.scenario w
   pub messages : HostStands v.host w.messages
   pub tally : v.tally ≡ counts w
@@ -106,11 +106,11 @@ abbrev pub IsStanding : WorldSeen → Type 0
 IsStanding v = (w : World) × WorldStands v w
 
 -- what a value keeps to, whatever it stands for
-pub record IsWhole (v : WorldSeen) : Type 0 where
+pub record IsWorldWhole (v : WorldSeen) : Type 0 where
   pub scenario : IsScenario v.scenario
-  pub slot_count : length v.slots ≡ length v.scenario.cards
+  pub run_card_count : length v.run_cards ≡ length v.scenario.cards
   pub lane_count : length v.lanes ≡ length v.scenario.lanes
-  pub shelf_count : length v.shelves ≡ length v.scenario.lanes
+  pub lane_store_count : length v.lane_stores ≡ length v.scenario.lanes
   pub fits : All LaneFits v.lanes
   pub keys : v.host.keys ≡ v.scenario.issuer
   pub accounts : v.host.accounts ≡ v.scenario.accounts
@@ -120,7 +120,7 @@ pub record IsWhole (v : WorldSeen) : Type 0 where
   pub standing : IsStanding v
 
 -- an event has led to what the value stands for, and is one of a lane alone, or none of it, for each that shares nothing
-pub record Goes (v : WorldSeen) (w : World) (e : Event) (lines : List Line) : Type 0 where
+pub record EventHasLed (v : WorldSeen) (w : World) (e : Event) (lines : List Line) : Type 0 where
   pub choices : List Bool
   pub after : World
   pub step : Step v.scenario w e choices lines after
@@ -143,7 +143,7 @@ is_done v = done_below v.scenario.lanes v.lanes (length v.scenario.lanes)
 
 -- how many exchanges are left at most
 abbrev pub turns_left : WorldSeen → ℕ
-turns_left v = sum_by lane_left v.lanes + sum_by shelf_left v.shelves
+turns_left v = sum_by lane_left v.lanes + sum_by lane_store_left v.lane_stores
 
 -- the settlement has come to this step in some world that the value stands for
 pub record IsSettling (v : WorldSeen) (k : ℕ) : Type 0 where
@@ -154,14 +154,14 @@ pub record IsSettling (v : WorldSeen) (k : ℕ) : Type 0 where
 -- the card that a check asks is on
 abbrev pub IsNext : WorldSeen → ℕ → Type 0
 IsNext v k =
-    (i : ℕ) (card : CardData) (command : List ℕ) (slot : SlotSeen) → slice_get (checks v.scenario) k ≡ Some (Asks i card command)
-    → slice_get v.slots i ≡ Some slot → is_on slot ≡ true
+    (i : ℕ) (card : CardData) (command : List ℕ) (run_card : RunCardSeen) → slice_get (checks v.scenario) k ≡ Some (Asks i card command)
+    → slice_get v.run_cards i ≡ Some run_card → run_card_is_powered run_card ≡ true
 
 -- pages that are off, and may stand for what a card has decided
 pub record PagesStand (memory : Memory) (card : CardData) (row : CardRow) : Type 0 where
   pub off : memory.on ≡ false
   pub may : MayStand memory.cells card.image.version (opening_of card.image) row.kept row.pending
-  pub losses : memory.losses ≡ capped row.losses
+  pub losses : memory.losses ≡ capped_at_64 row.losses
 
 -- those of a card of canned answers are blank
 abbrev pub PagesAre : Memory → CardData → CardRow → Option (List (List ℕ)) → Type 0
@@ -172,7 +172,7 @@ PagesAre memory card row (Some answers) = IsBlank memory
 pub record StorePages (memory : Memory) (row : LaneRow) : Type 0 where
   pub off : memory.on ≡ false
   pub may : MayStandForList memory.cells row.store.list row.store.lost
-  pub losses : memory.losses ≡ capped (lost_count row.ended)
+  pub losses : memory.losses ≡ capped_at_64 (lost_count row.ended)
 
 -- the pages of this number are those of a lane's store
 abbrev pub is_store_of : ScenarioData → ℕ → Bool

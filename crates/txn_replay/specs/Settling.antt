@@ -8,7 +8,7 @@ use Rattle.txn_replay.specs.declared.settlement.Settling.{Settling}
 use Rattle.txn_replay.specs.declared.settlement.Settling.TheVariants as settling
 
 -- lanes and what they keep
-pub record AreRows (lanes : List Lane) (rows : List LaneRow) : Type 0 where
+pub record LanesKeep (lanes : List Lane) (rows : List LaneRow) : Type 0 where
   pub count : length lanes ≡ length rows
   pub keeps : (l : ℕ) (lane : Lane) (row : LaneRow) → slice_get lanes l ≡ Some lane → slice_get rows l ≡ Some row → LaneKeeps lane row
 

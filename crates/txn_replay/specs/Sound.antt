@@ -3,7 +3,7 @@ use Rattle.std.specs.Prelude.{◌≡◌, ◌⊎◌, ℕ, List, length, Some, Non
 use Rattle.kernel.specs.Reply.{Reply}
 use Rattle.scenario.specs.Plan.{ScenarioData}
 use Rattle.txn_replay.specs.Payment.{Payment, next_of}
-use Rattle.txn_replay.specs.Run.{Place, Scheduled, Round, Settling, Auditing, Finished}
+use Rattle.txn_replay.specs.Run.{RunPlace, Scheduled, Round, Settling, Auditing, Finished}
 use Rattle.txn_replay.specs.World.{Holder, World, card_at, lane_at}
 
 -- the purchase behind those of a lane that have ended
@@ -24,14 +24,14 @@ pub record HeldBy (s : ScenarioData) (w : World) (i : ℕ) (h : Holder) : Type 0
   pub is : next_of s w h.lane ≡ Some payment
   pub card : payment.planned.card ≡ i
 
-pub record IsSound (s : ScenarioData) (w : World) : Type 0 where
+pub record IsWorldSound (s : ScenarioData) (w : World) : Type 0 where
   pub card_count : length w.cards ≡ length s.cards
   pub lane_count : length w.lanes ≡ length s.lanes
   pub runs : (l : ℕ) (replies : List Reply) → (lane_at w l).running ≡ Some replies → RunsIn s w l
   pub held : (i : ℕ) (h : Holder) → (card_at w i).holder ≡ Some h → HeldBy s w i h
 
 -- another purchase has the card of this lane's next one
-pub record IsHeld (s : ScenarioData) (w : World) (l : ℕ) : Type 0 where
+pub record IsCardInUse (s : ScenarioData) (w : World) (l : ℕ) : Type 0 where
   pub payment : Payment
   pub holder : Holder
   pub is : next_of s w l ≡ Some payment
@@ -40,10 +40,10 @@ pub record IsHeld (s : ScenarioData) (w : World) (l : ℕ) : Type 0 where
 -- a lane that runs no purchase, and that has none left or waits for a card
 pub record IsIdle (s : ScenarioData) (w : World) (l : ℕ) : Type 0 where
   pub rests : (lane_at w l).running ≡ None
-  pub waits : (next_of s w l ≡ None) ⊎ IsHeld s w l
+  pub waits : (next_of s w l ≡ None) ⊎ IsCardInUse s w l
 
 -- the turns are over
-abbrev pub IsCalm : Place → Type 0
+abbrev pub IsCalm : RunPlace → Type 0
 IsCalm (Scheduled k) = ⊥
 IsCalm (Round l) = ⊥
 IsCalm (Settling k) = ⊤

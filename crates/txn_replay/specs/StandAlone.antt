@@ -1,13 +1,13 @@
 -- A lane that shares no card and no account with others runs as if it were alone (this project's own).
-use Rattle.std.specs.Prelude.{◌≡◌, ◌≢◌, ℕ, ◌-◌, ◌==◌, ◌<◌, Bool, true, false, List, [], length, count_by, filter, take, slice_get, Option, Some, None}
+use Rattle.std.specs.Prelude.{◌≡◌, ◌≢◌, ℕ, ◌-◌, ◌==◌, ◌<◌, Bool, true, false, List, [], ◌++◌, length, count_by, filter, take, slice_get, Option, Some, None}
 use Rattle.std.specs.List.{list_any}
 use Rattle.std.specs.Str.{bytes_eq}
-use Rattle.host_histories.specs.Apart.{pan_of, own_accounts}
+use Rattle.host_histories.specs.Apart.{pan_carried, own_accounts}
 use Rattle.report_text.specs.declared.line.Line.{Line}
 use Rattle.scenario.specs.Plan.{ScenarioData, IsScenario}
 use Rattle.txn_replay.specs.Alone.{is_card_of, alone, LaneRun, HasOwnCards, HasOwnNumbers, PartsAgree, is_own, LaneHasNoChoice}
 use Rattle.txn_replay.specs.Choices.{IsSameRun}
-use Rattle.txn_replay.specs.Run.{Run}
+use Rattle.txn_replay.specs.Run.{RunPlace, Finished, Reached, start, scheduled, rounds, round, again, settlement, settling, audit, auditing, finished, Run}
 use Rattle.txn_replay.specs.Steps.{Settlement, Opens, Sends, settlements_from, settlements, Check, PowersUp, Asks, checks, Step}
 use Rattle.txn_replay.specs.World.{World, first_world, lane_at}
 use Rattle.txn_replay.specs.declared.event.Event.{Event}
@@ -19,11 +19,11 @@ carries pan None = false
 carries pan (Some other) = bytes_eq other pan
 
 unfoldable pub is_carried : List (List ℕ) → List ℕ → Bool
-is_carried messages pan = list_any (λ message. carries pan (pan_of message)) messages
+is_carried messages pan = list_any (λ message. carries pan (pan_carried message)) messages
 
 -- no other lane's message carries an account number that a message of the lane carries
 abbrev pub SharesNoNumber : ℕ → World → Type 0
-SharesNoNumber l w = (k i : ℕ) (message pan : List ℕ) → k ≢ l → slice_get (lane_at w k).sent i ≡ Some message → pan_of message ≡ Some pan
+SharesNoNumber l w = (k i : ℕ) (message pan : List ℕ) → k ≢ l → slice_get (lane_at w k).sent i ≡ Some message → pan_carried message ≡ Some pan
     → is_carried (lane_at w l).sent pan ≡ false
 
 -- so the numbers that its messages carry are its own
@@ -36,25 +36,6 @@ pub record IsApart (pans : List ℕ → Bool) (s : ScenarioData) (l : ℕ) (w : 
   pub inside : l < length s.lanes
   pub cards : HasOwnCards s l
   pub numbers : HasOwnNumbers pans l w
-
--- its own lines are those of a run of the lane alone, and the parts of both worlds agree
-pub record RunsAlone (pans : List ℕ → Bool) (s : ScenarioData) (l : ℕ) (lines : List Line) (w : World) : Type 0 where
-  pub own : List Line
-  pub world : World
-  pub run : LaneRun pans s l own world
-  pub told : own ≡ filter (is_own pans s l) lines
-  pub parts : PartsAgree pans s l w world
-
-abbrev pub LanesStandAlone : Type 0
-LanesStandAlone =
-    (pans : List ℕ → Bool) (s : ScenarioData) (l : ℕ) (lines : List Line) (w : World) → IsScenario s → IsApart pans s l w → Run s lines w
-    → RunsAlone pans s l lines w
-
--- where no tear of the lane leaves a choice, all runs of it are one, whatever their truth values
-abbrev pub LaneRunIsOne : Type 0
-LaneRunIsOne =
-    (pans : List ℕ → Bool) (s : ScenarioData) (l : ℕ) (lines others : List Line) (w v : World) → l < length s.lanes → LaneHasNoChoice s l
-    → LaneRun pans s l lines w → LaneRun pans s l others v → IsSameRun lines others w v
 
 -- two scenarios have the same issuer, accounts of these numbers, cards of the lane, and lane
 pub record HaveSame (pans : List ℕ → Bool) (s t : ScenarioData) (l : ℕ) : Type 0 where
@@ -78,6 +59,49 @@ is_check_of own None = false
 is_check_of own (Some (PowersUp i card)) = own i
 is_check_of own (Some (Asks i card command)) = own i
 
+-- the truth values of an event, where it is one of the lane
+abbrev pub own_values : Bool → List Bool → List Bool
+own_values true choices = choices
+own_values false choices = []
+
+-- The truth values that a lane's own events took in a run: the openings of its store, and the power-ups of its cards.
+unfoldable pub own_choices : (s : ScenarioData) (l : ℕ) (place : RunPlace) (n : ℕ) (choices : List Bool) (lines : List Line) (w : World)
+    → Reached s place n choices lines w → List Bool
+own_choices s l _ _ _ _ _ start = []
+own_choices s l _ _ _ _ _ (scheduled {l = k} {n} {cs} {c} {ls} {w = v} before at step) = own_choices s l _ n cs ls v before ++ own_values (k == l) c
+own_choices s l _ _ _ _ _ (rounds {n} {cs} {ls} {w = v} before) = own_choices s l _ n cs ls v before
+own_choices s l _ _ _ _ _ (round {l = k} {n} {cs} {c} {ls} {w = v} before within busy step) = own_choices s l _ n cs ls v before ++ own_values (k == l) c
+own_choices s l _ _ _ _ _ (again {n} {cs} {ls} {w = v} before) = own_choices s l _ n cs ls v before
+own_choices s l _ _ _ _ _ (settlement {n} {cs} {ls} {w = v} before over) = own_choices s l _ n cs ls v before
+own_choices s l _ _ _ _ _ (settling {n} {cs} {c} {ls} {w = v} {at} before here step) =
+    own_choices s l _ n cs ls v before ++ own_values (is_step_of l (Some at)) c
+own_choices s l _ _ _ _ _ (audit {n} {cs} {ls} {w = v} before past) = own_choices s l _ n cs ls v before
+own_choices s l _ _ _ _ _ (auditing {n} {cs} {c} {ls} {w = v} {check} before here step) =
+    own_choices s l _ n cs ls v before ++ own_values (is_check_of (is_card_of s l) (Some check)) c
+own_choices s l _ _ _ _ _ (finished {n} {cs} {ls} {w = v} before past) = own_choices s l _ n cs ls v before
+
+abbrev pub run_choices : (s : ScenarioData) (l : ℕ) (lines : List Line) (w : World) → Run s lines w → List Bool
+run_choices s l lines w run = own_choices s l Finished run.count run.choices run.reported w run.reached
+
+-- its own lines are those of a run of the lane alone with the truth values of its own events, and the parts of both worlds agree
+pub record RunsAlone (pans : List ℕ → Bool) (s : ScenarioData) (l : ℕ) (lines : List Line) (w : World) (whole : Run s lines w) : Type 0 where
+  pub own : List Line
+  pub world : World
+  pub run : LaneRun pans s l (run_choices s l lines w whole) own world
+  pub told : own ≡ filter (is_own pans s l) lines
+  pub parts : PartsAgree pans s l w world
+
+abbrev pub LanesStandAlone : Type 0
+LanesStandAlone =
+    (pans : List ℕ → Bool) (s : ScenarioData) (l : ℕ) (lines : List Line) (w : World) → IsScenario s → IsApart pans s l w → (run : Run s lines w)
+    → RunsAlone pans s l lines w run
+
+-- where no tear of the lane leaves a choice, all runs of it are one, whatever their truth values
+abbrev pub LaneRunIsOne : Type 0
+LaneRunIsOne =
+    (pans : List ℕ → Bool) (s : ScenarioData) (l : ℕ) (choices values : List Bool) (lines others : List Line) (w v : World) → l < length s.lanes
+    → LaneHasNoChoice s l → LaneRun pans s l choices lines w → LaneRun pans s l values others v → IsSameRun lines others w v
+
 -- an exchange of the lane, a step of its settlement, or one of the audit of its cards
 abbrev pub is_event_of : ScenarioData → World → ℕ → Event → Bool
 is_event_of s w l (Turn lane) = lane == l
@@ -100,13 +124,13 @@ pub record Follows (pans : List ℕ → Bool) (s : ScenarioData) (l : ℕ) (v : 
   pub parts : PartsAgree pans s l after world
 
 -- none of the lines is the lane's own, and the parts agree as before
-pub record Stays (pans : List ℕ → Bool) (s : ScenarioData) (l : ℕ) (v : World) (lines : List Line) (after : World) : Type 0 where
+pub record LeavesLane (pans : List ℕ → Bool) (s : ScenarioData) (l : ℕ) (v : World) (lines : List Line) (after : World) : Type 0 where
   pub none : filter (is_own pans s l) lines ≡ []
   pub parts : PartsAgree pans s l after v
 
 abbrev pub ComesBy : (List ℕ → Bool) → ScenarioData → ℕ → World → Event → List Bool → List Line → World → Bool → Type 0
 ComesBy pans s l v event choices lines after true = Follows pans s l v event choices lines after
-ComesBy pans s l v event choices lines after false = Stays pans s l v lines after
+ComesBy pans s l v event choices lines after false = LeavesLane pans s l v lines after
 
 -- both agree before their first events
 abbrev pub FirstPartsAgree : Type 0

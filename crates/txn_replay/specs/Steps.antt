@@ -27,15 +27,15 @@ pub record After : Type 0 where
   pub lines : List Line
   pub choices : ℕ
 
-abbrev pub nothing : World → After
-nothing w = record { world = w; lines = []; choices = 0 }
+abbrev pub no_event : World → After
+no_event w = record { world = w; lines = []; choices = 0 }
 
 -- what a lane's exchange touches
 abbrev pub part_of : World → ℕ → ℕ → Part
 part_of w l i = record { lane = lane_at w l; card = card_at w i; messages = w.messages }
 
-abbrev pub moved : World → ℕ → ℕ → Moved → After
-moved w l i m = record {
+abbrev pub lane_moved : World → ℕ → ℕ → Moved → After
+lane_moved w l i m = record {
   world = record { cards = slice_set w.cards i m.part.card; lanes = slice_set w.lanes l m.part.lane; messages = m.part.messages };
   lines = m.lines;
   choices = m.choices;
@@ -47,8 +47,8 @@ choice_in choices n = slice_index_or choices n false
 
 -- nothing happens where no purchase is left
 abbrev pub turned_by : World → ℕ → List Bool → Option Payment → After
-turned_by w l choices None = nothing w
-turned_by w l choices (Some p) = moved w l p.planned.card (lane_piece p (part_of w l p.planned.card) (choice_in choices 0) (choice_in choices 1))
+turned_by w l choices None = no_event w
+turned_by w l choices (Some p) = lane_moved w l p.planned.card (lane_piece p (part_of w l p.planned.card) (choice_in choices 0) (choice_in choices 1))
 
 abbrev pub turned : ScenarioData → World → ℕ → List Bool → After
 turned s w l choices = turned_by w l choices (next_of s w l)
@@ -111,7 +111,7 @@ settled_with iso w l message drops reply = record {
 }
 
 abbrev pub settles : ScenarioData → World → List Bool → Option Settlement → After
-settles s w choices None = nothing w
+settles s w choices None = no_event w
 settles s w choices (Some (Opens l)) = opens_to_settle w l (choice_in choices 0)
 settles s w choices (Some (Sends l message drops)) =
     settled_with (dialect_of s l) w l message drops (host_reply s.issuer s.accounts w.messages message)
@@ -160,7 +160,7 @@ audits_ask w i card command said = record {
 }
 
 abbrev pub audits : World → List Bool → Option Check → After
-audits w choices None = nothing w
+audits w choices None = no_event w
 audits w choices (Some (PowersUp i card)) = audits_power w i card (choice_in choices 0)
 audits w choices (Some (Asks i card command)) =
     audits_ask w i card command (card_answer card.image (card_at w i).kept (card_at w i).session command)

@@ -1,11 +1,11 @@
 -- What holds of the stores in every world of a run, and of each while the settlement goes through them (this project's own).
 use Rattle.std.specs.Prelude.{◌≡◌, ◌⊎◌, ◌==◌, ℕ, ◌-◌, ◌/◌, ◌≤◌, ◌<◌, Bool, true, false, is_some, List, [], length, take, drop, Some, None, unwrap_or}
-use Rattle.capture_store.specs.Calls.{found_by}
+use Rattle.capture_store.specs.Calls.{list_found}
 use Rattle.capture_store.specs.StoreRow.{StoreRow, new_store}
 use Rattle.report_text.specs.declared.line.Line.{Line}
 use Rattle.scenario.specs.Plan.{ScenarioData}
 use Rattle.txn_replay.specs.Payment.{durable_of}
-use Rattle.txn_replay.specs.Run.{Place, Settling, Auditing, Finished, Reached, all_over}
+use Rattle.txn_replay.specs.Run.{RunPlace, Settling, Auditing, Finished, Reached, all_over}
 use Rattle.txn_replay.specs.Steps.{settlements_from}
 use Rattle.txn_replay.specs.World.{LaneRow, World, lane_at}
 
@@ -16,7 +16,7 @@ pub record IsOpen (store : StoreRow) : Type 0 where
 
 -- whatever the next opening finds are at most seven messages; and a purchase runs with an open store that has room
 pub record IsStored (row : LaneRow) : Type 0 where
-  pub few : (found : Bool) → length (found_by row.store.list row.store.lost found) ≤ 7
+  pub few : (found : Bool) → length (list_found row.store.list row.store.lost found) ≤ 7
   pub found_few : length (unwrap_or row.store.found []) ≤ 7
   pub clean : is_some row.store.commits ≡ true → IsOpen row.store
   pub opens : is_some row.running ≡ true → is_some row.store.commits ≡ true
@@ -34,7 +34,7 @@ pub record StoresStand (s : ScenarioData) (w : World) : Type 0 where
 
 abbrev pub StoresAreKept : Type 0
 StoresAreKept =
-    (s : ScenarioData) (place : Place) (n : ℕ) (choices : List Bool) (lines : List Line) (w : World)
+    (s : ScenarioData) (place : RunPlace) (n : ℕ) (choices : List Bool) (lines : List Line) (w : World)
     → Reached s place n choices lines w → StoresStand s w
 
 -- before its place the settlement hasn't opened the store
@@ -68,6 +68,6 @@ pub record IsEmptied (store : StoreRow) : Type 0 where
 
 abbrev pub StoresAreEmptied : Type 0
 StoresAreEmptied =
-    (s : ScenarioData) (place : Place) (n : ℕ) (choices : List Bool) (lines : List Line) (w : World) (l : ℕ)
+    (s : ScenarioData) (place : RunPlace) (n : ℕ) (choices : List Bool) (lines : List Line) (w : World) (l : ℕ)
     → durable_of s l ≡ true → 1 ≤ s.copies → Reached s place n choices lines w → (place ≡ Finished) ⊎ ((k : ℕ) × (place ≡ Auditing k))
     → IsEmptied (lane_at w l).store

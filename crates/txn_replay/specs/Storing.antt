@@ -1,8 +1,8 @@
 -- One exchange of a lane with its store: before a purchase begins the store is opened under the terminal's plan, and a full
 -- one delivers its first message (this project's own).
 use Rattle.std.specs.Prelude.{ℕ, zero, suc, ◌+◌, Bool, true, false, List, [], ◌∷◌, ◌++◌, length, replicate, Option, Some, None}
-use Rattle.capture_store.specs.StoreRow.{StoreRow, is_cut, opened_to_add, delivered_by}
-use Rattle.emv_ports.specs.Cut.{is_named}
+use Rattle.capture_store.specs.StoreRow.{StoreRow, is_next_cut, opened_to_add, delivered_by}
+use Rattle.emv_ports.specs.Cut.{names_commit}
 use Rattle.issuer_host.specs.History.{host_reply}
 use Rattle.kernel.specs.Reply.{Reply}
 use Rattle.report_text.specs.declared.line.Line.{Line}
@@ -47,7 +47,7 @@ dropped_by p part lines false = record { part = part; lines = lines; choices = 0
 abbrev pub delivers_first : Payment → Part → List (List ℕ) → Moved
 delivers_first p part [] = still part
 delivers_first p part (message ∷ others) =
-    dropped_by p (copied p message part) (copy_lines p message part.messages p.copies) (is_cut p.planned.terminal_tear part.lane.store)
+    dropped_by p (copied p message part) (copy_lines p message part.messages p.copies) (is_next_cut p.planned.terminal_tear part.lane.store)
 
 -- the first message is delivered so often as a settlement message is, and dropped
 abbrev pub delivers : Payment → Part → Moved
@@ -75,7 +75,7 @@ goes_through p part true = Ends (delivers p part)
 goes_through p part false = Begins part
 
 abbrev pub stored_by : Payment → Part → Bool → Option ℕ → Before
-stored_by p part one None = opens_by p part one (is_named p.planned.terminal_tear 0)
+stored_by p part one None = opens_by p part one (names_commit p.planned.terminal_tear 0)
 stored_by p part one (Some made) = goes_through p part part.lane.store.due
 
 -- nothing happens while another purchase has the card
@@ -92,18 +92,18 @@ abbrev pub before_by : Payment → Part → Bool → Bool → Before
 before_by p part one false = Begins part
 before_by p part one true = runs_by p part one part.lane.running
 
-abbrev pub before : Payment → Part → Bool → Before
-before p part one = before_by p part one p.durable
+abbrev pub before_purchase : Payment → Part → Bool → Before
+before_purchase p part one = before_by p part one p.durable
 
 -- one truth value more was taken, before the others
 abbrev pub more_chosen : Moved → Moved
 more_chosen moved = record moved { choices = moved.choices + 1 }
 
-abbrev pub behind : Payment → Bool → Bool → Before → Moved
-behind p one other (Ends moved) = moved
-behind p one other (Begins part) = piece p part one
-behind p one other (OpensAndBegins part) = more_chosen (piece p part other)
+abbrev pub moved_behind : Payment → Bool → Bool → Before → Moved
+moved_behind p one other (Ends moved) = moved
+moved_behind p one other (Begins part) = piece p part one
+moved_behind p one other (OpensAndBegins part) = more_chosen (piece p part other)
 
 -- one exchange of the lane, with the truth values of its store's opening and of its card's power-up, in this order
 abbrev pub lane_piece : Payment → Part → Bool → Bool → Moved
-lane_piece p part one other = behind p one other (before p part one)
+lane_piece p part one other = moved_behind p one other (before_purchase p part one)

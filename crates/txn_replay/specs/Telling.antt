@@ -13,10 +13,10 @@ use Rattle.scenario.specs.Plan.{ScenarioData}
 use Rattle.txn_replay.specs.Changes.{is_generate, is_good}
 use Rattle.txn_replay.specs.Laws.{taken_in}
 use Rattle.txn_replay.specs.Payment.{Payment, next_of}
-use Rattle.txn_replay.specs.Run.{Place, Reached}
-use Rattle.txn_replay.specs.Sound.{IsSound, holder_in}
+use Rattle.txn_replay.specs.Run.{RunPlace, Reached}
+use Rattle.txn_replay.specs.Sound.{IsWorldSound, holder_in}
 use Rattle.txn_replay.specs.Steps.{happens}
-use Rattle.txn_replay.specs.World.{Holder, Given, CardRow, World, card_at}
+use Rattle.txn_replay.specs.World.{Holder, CryptogramGiven, CardRow, World, card_at}
 use Rattle.txn_replay.specs.declared.event.Event.TheVariants.{Turn, Settle, Audit}
 
 -- the command that a line tells
@@ -53,33 +53,33 @@ pub record HoldsCounter (image : ImageData) (app counter : ℕ) (answer : List �
   pub answer_is : answer ≡ response_bytes (body_in application.ac_format kind counter cryptogram issuer_data) 0x9000
 
 -- a row of a cryptogram: of this purchase, with the counter that the answer holds
-pub record IsRow (image : ImageData) (holder : Holder) (row : Given) (answer : List ℕ) : Type 0 where
+pub record IsCryptogramRow (image : ImageData) (holder : Holder) (row : CryptogramGiven) (answer : List ℕ) : Type 0 where
   pub holder_is : row.holder ≡ holder
   pub holds : HoldsCounter image row.app row.counter answer
 
 -- one row an answer, in their order
-abbrev pub AreRows : ImageData → Holder → List Given → List (List ℕ) → Type 0
-AreRows image holder [] [] = ⊤
-AreRows image holder (row ∷ rows) (answer ∷ answers) = IsRow image holder row answer × AreRows image holder rows answers
-AreRows image holder [] (answer ∷ answers) = ⊥
-AreRows image holder (row ∷ rows) [] = ⊥
+abbrev pub AreCryptogramRows : ImageData → Holder → List CryptogramGiven → List (List ℕ) → Type 0
+AreCryptogramRows image holder [] [] = ⊤
+AreCryptogramRows image holder (row ∷ rows) (answer ∷ answers) = IsCryptogramRow image holder row answer × AreCryptogramRows image holder rows answers
+AreCryptogramRows image holder [] (answer ∷ answers) = ⊥
+AreCryptogramRows image holder (row ∷ rows) [] = ⊥
 
 -- a card of canned answers has no application that gives one
-abbrev pub given_in : Option (List (List ℕ)) → List Line → List (List ℕ)
-given_in None lines = cryptograms_told lines
-given_in (Some answers) lines = []
+abbrev pub cryptograms_given : Option (List (List ℕ)) → List Line → List (List ℕ)
+cryptograms_given None lines = cryptograms_told lines
+cryptograms_given (Some answers) lines = []
 
 -- the rows of a card grew by those of the cryptograms that the lines tell
-pub record Gives (p : Payment) (holder : Holder) (before after : CardRow) (lines : List Line) : Type 0 where
-  pub rows : List Given
+pub record GivesRows (p : Payment) (holder : Holder) (before after : CardRow) (lines : List Line) : Type 0 where
+  pub rows : List CryptogramGiven
   pub grown : after.given ≡ before.given ++ rows
-  pub are : AreRows p.card.image holder rows (given_in p.card.canned lines)
+  pub are : AreCryptogramRows p.card.image holder rows (cryptograms_given p.card.canned lines)
 
 -- an exchange of a lane adds to its purchase's card one row a GENERATE AC that is answered 9000
 abbrev pub GivenIsTold : Type 0
 GivenIsTold =
-    (s : ScenarioData) (w : World) (l : ℕ) (choices : List Bool) (p : Payment) → IsSound s w → next_of s w l ≡ Some p
-    → Gives p (holder_in w l) (card_at w p.planned.card) (card_at (happens s w (Turn l) choices).world p.planned.card) (happens s w (Turn l) choices).lines
+    (s : ScenarioData) (w : World) (l : ℕ) (choices : List Bool) (p : Payment) → IsWorldSound s w → next_of s w l ≡ Some p
+    → GivesRows p (holder_in w l) (card_at w p.planned.card) (card_at (happens s w (Turn l) choices).world p.planned.card) (happens s w (Turn l) choices).lines
 
 -- and nothing else adds one: the settlement and the audit leave the rows of each card
 pub record LeavesGiven (s : ScenarioData) (w : World) (k : ℕ) (choices : List Bool) : Type 0 where
@@ -97,12 +97,12 @@ pub record IsSure (card : CardRow) : Type 0 where
 -- so it is of a card that a purchase has
 abbrev pub HeldIsSure : Type 0
 HeldIsSure =
-    (s : ScenarioData) (place : Place) (n : ℕ) (choices : List Bool) (lines : List Line) (w : World) (i : ℕ) (h : Holder)
+    (s : ScenarioData) (place : RunPlace) (n : ℕ) (choices : List Bool) (lines : List Line) (w : World) (i : ℕ) (h : Holder)
     → Reached s place n choices lines w → (card_at w i).holder ≡ Some h → IsSure (card_at w i)
 
 -- and behind an answer, also where that ends the purchase
 abbrev pub AnsweredIsSure : Type 0
 AnsweredIsSure =
-    (s : ScenarioData) (place : Place) (n : ℕ) (taken : List Bool) (lines : List Line) (w : World) (l : ℕ) (choices : List Bool) (p : Payment)
+    (s : ScenarioData) (place : RunPlace) (n : ℕ) (taken : List Bool) (lines : List Line) (w : World) (l : ℕ) (choices : List Bool) (p : Payment)
     → Reached s place n taken lines w → next_of s w l ≡ Some p → list_any is_answer (happens s w (Turn l) choices).lines ≡ true
     → IsSure (card_at (happens s w (Turn l) choices).world p.planned.card)

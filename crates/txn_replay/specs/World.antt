@@ -15,7 +15,7 @@ pub record Holder : Type 0 where
   pub number : ℕ
 
 -- a cryptogram that a card gave: its application, that one's transaction counter, and the purchase
-pub record Given : Type 0 where
+pub record CryptogramGiven : Type 0 where
   pub app : ℕ
   pub counter : ℕ
   pub holder : Holder
@@ -38,7 +38,7 @@ pub record CardRow : Type 0 where
   pub told : ℕ
   -- the running purchase that has the card
   pub holder : Option Holder
-  pub given : List Given
+  pub given : List CryptogramGiven
   pub acts : List Act
   -- how often its power was cut
   pub losses : ℕ

@@ -1,22 +1,23 @@
 //! The audit: each card with applications is powered up, and each of these is asked for its counters.
 ghost use Rattle.std.specs.Prelude.{◌≡◌, ◌≤◌, ◌<◌, ◌+◌, ◌*◌, ◌∷◌, [], ℕ, Bool, true, None, option_map, slice_get, length, IfSome};
-ghost use Rattle.card_app.specs.SeenChip.{ChipOn, ChipOff, is_on as chip_on, losses_of};
+ghost use Rattle.card_app.specs.SeenIcc.{IccOn, IccOff, icc_is_powered as icc_on};
 ghost use Rattle.card_pages.specs.Pages.{found_of};
 ghost use Rattle.risk_mgmt.specs.Counters.{get_data};
 ghost use Rattle.scenario.specs.Cards.{CardData};
 ghost use Rattle.scenario.specs.Seen.{image_of, canned_of, seen_card, seen_cards};
-ghost use Rattle.txn_replay.specs.Audited.{asked_by, question_check, question_command, step_check, RowRests, IsAsked, IsChecked};
+ghost use Rattle.txn_replay.specs.Audited.{audit_question, question_check, question_command, step_check, RowRests, IsAuditAsked, IsChecked};
 ghost use Rattle.txn_replay.specs.Lines.{audit_power_line};
-ghost use Rattle.txn_replay.specs.Slot.{OfApps, IsSlotOf, HasLost, is_on as has_power};
+ghost use Rattle.txn_replay.specs.SameIcc.{KeepsIcc};
+ghost use Rattle.txn_replay.specs.RunCard.{OfApps, IsRunCardOf, HasLost, run_card_is_powered as has_power};
 ghost use Rattle.txn_replay.specs.Steps.{app_checks, checks_from};
 ghost use Rattle.txn_replay.specs.World.{CardRow};
 ghost use Rattle.std.specs.List.{flat_map};
 
-use crate::lines::{Lines, add_audit, add_audit_power};
-use crate::slot::{Slot, SlotKind};
+use crate::lines::{Lines, name_of, tell_audit, tell_audit_power};
+use crate::run_card::{RunCard, RunCardKind};
 use apdu_core::{Answer, Command, Out, write_command};
 use app_select::{FIRST_OCCURRENCE, write_select};
-use card_app::Chip;
+use card_app::Icc;
 use card_files::AppImage;
 use emv_ports::Pages;
 use scenario::NamedCard;
@@ -54,7 +55,7 @@ fn question_at(apps: &[AppImage], number: usize) -> Option<Question<'_>>
 /// The first, second or third question to an application.
 fn question_of(app: &AppImage, number: usize) -> Question<'_>
     requires { number < 3 }
-    ensures { (i : ℕ) (card : CardData) → question_check i card result ≡ asked_by i card app.now number }
+    ensures { (i : ℕ) (card : CardData) → question_check i card result ≡ audit_question i card app.now number }
 {
     match number {
         0 => Question::Select(app),
@@ -96,83 +97,81 @@ pub(crate) fn audit_step(cards: &[NamedCard], number: u32) -> Option<AuditStep<'
 }
 
 /// The step is carried out on its card, which no purchase has, and which has applications.
-pub(crate) fn carry_out<P: Pages>(step: AuditStep<'_>, slot: &mut Slot<'_, P>, lines: &mut Lines)
-    requires rests { (row : CardRow) × RowRests slot.old row }
-    requires is { IsSlotOf slot.old (seen_card step.card.now) }
+pub(crate) fn carry_out<P: Pages>(
+    step: AuditStep<'_>,
+    run_card: &mut RunCard<'_, P>,
+    lines: &mut Lines,
+)
+    requires rests { (row : CardRow) × RowRests run_card.old row }
+    requires is { IsRunCardOf run_card.old (seen_card step.card.now) }
     requires apps { canned_of step.card.now.kind ≡ None }
-    requires on { IfSome step.question (λ question. has_power slot.old ≡ true) }
+    requires on { IfSome step.question (λ question. has_power run_card.old ≡ true) }
     requires name { length step.card.now.name.items ≤ 16 }
-    requires lines { lines.old.items ≡ [] }
-    ensures checked { (row : CardRow) → RowRests slot.old row
-        → (choice : Bool) × IsChecked slot.new (seen_card step.entry.card.now) row step.entry.question choice lines.new.items }
-    ensures on { has_power slot.new ≡ true }
-    ensures is { (card : CardData) → IsSlotOf slot.old card → IsSlotOf slot.new card }
-    ensures losses { (count : ℕ) → HasLost slot.old count → HasLost slot.new count }
+    ensures checked { (row : CardRow) → RowRests run_card.old row
+        → (choice : Bool) × IsChecked run_card.new (seen_card step.entry.card.now) row step.entry.question choice lines.new.items }
+    ensures on { has_power run_card.new ≡ true }
+    ensures is { (card : CardData) → IsRunCardOf run_card.old card → IsRunCardOf run_card.new card }
+    ensures losses { (count : ℕ) → HasLost run_card.old count → HasLost run_card.new count }
 {
-    let SlotKind::App(chip) = &mut slot.0 else {
+    let RunCardKind::App(icc) = &mut run_card.0 else {
         unreachable!();
     };
     match step.question {
-        None => power(step.card, chip, lines),
-        Some(question) => ask(step.card, chip, question, lines),
+        None => power(step.card, icc, lines),
+        Some(question) => ask(step.card, icc, question, lines),
     }
 }
 
 /// A card that the audit has turned on is turned off.
-fn turn_off<P: Pages>(chip: &mut Chip<'_, P>)
-    ensures off { (row : CardRow) → RowRests (OfApps chip.old) row → ChipOff chip.new row.kept row.pending }
-    ensures image { chip.new.image ≡ chip.old.image }
-    ensures losses { losses_of chip.new ≡ losses_of chip.old }
+fn turn_off<P: Pages>(icc: &mut Icc<'_, P>)
+    ensures off { (row : CardRow) → RowRests (OfApps icc.old) row → IccOff icc.new row.kept row.pending }
+    ensures same { KeepsIcc icc.old icc.new }
 {
-    if chip.is_on() {
-        chip.power_off();
+    if icc.is_on() {
+        icc.power_off();
     }
 }
 
 /// A card is powered up without a plan.
-fn power<P: Pages>(card: &NamedCard, chip: &mut Chip<'_, P>, lines: &mut Lines)
-    requires rests { (row : CardRow) × RowRests (OfApps chip.old) row }
+fn power<P: Pages>(card: &NamedCard, icc: &mut Icc<'_, P>, lines: &mut Lines)
+    requires rests { (row : CardRow) × RowRests (OfApps icc.old) row }
     requires name { length card.now.name.items ≤ 16 }
-    requires lines { lines.old.items ≡ [] }
-    ensures powered { (row : CardRow) → RowRests (OfApps chip.old) row → chip.old.image ≡ image_of card.now.kind
-        → (with_it : Bool) × ChipOn chip.new [] (found_of row.kept row.pending with_it) None 0
+    ensures powered { (row : CardRow) → RowRests (OfApps icc.old) row → icc.old.image ≡ image_of card.now.kind
+        → (with_it : Bool) × IccOn icc.new [] (found_of row.kept row.pending with_it) None 0
         × (lines.new.items ≡ audit_power_line (seen_card card.now) (found_of row.kept row.pending with_it) ∷ []) }
-    ensures on { chip_on chip.new ≡ true }
-    ensures image { chip.new.image ≡ chip.old.image }
-    ensures losses { losses_of chip.new ≡ losses_of chip.old }
+    ensures on { icc_on icc.new ≡ true }
+    ensures same { KeepsIcc icc.old icc.new }
 {
-    turn_off(chip);
-    let Ok(()) = chip.power_up(None) else {
+    turn_off(icc);
+    let Ok(()) = icc.power_up(None) else {
         unreachable!();
     };
-    add_audit_power(card.name.as_slice(), chip.image(), chip.totals(), lines);
+    tell_audit_power(
+        name_of(card.name.as_slice()),
+        icc.image(),
+        icc.totals(),
+        lines,
+    );
 }
 
 /// A card that the audit has turned on is asked.
-fn ask<P: Pages>(
-    card: &NamedCard,
-    chip: &mut Chip<'_, P>,
-    question: Question<'_>,
-    lines: &mut Lines,
-)
-    requires rests { (row : CardRow) × RowRests (OfApps chip.old) row }
-    requires on { chip_on chip.old ≡ true }
+fn ask<P: Pages>(card: &NamedCard, icc: &mut Icc<'_, P>, question: Question<'_>, lines: &mut Lines)
+    requires rests { (row : CardRow) × RowRests (OfApps icc.old) row }
+    requires on { icc_on icc.old ≡ true }
     requires name { length card.now.name.items ≤ 16 }
-    requires lines { lines.old.items ≡ [] }
-    ensures asked { (row : CardRow) → RowRests (OfApps chip.old) row → chip.old.image ≡ image_of card.now.kind
-        → IsAsked chip.new (seen_card card.now) row (question_command question.entry) lines.new.items }
-    ensures on { chip_on chip.new ≡ true }
-    ensures image { chip.new.image ≡ chip.old.image }
-    ensures losses { losses_of chip.new ≡ losses_of chip.old }
+    ensures asked { (row : CardRow) → RowRests (OfApps icc.old) row → icc.old.image ≡ image_of card.now.kind
+        → IsAuditAsked icc.new (seen_card card.now) row (question_command question.entry) lines.new.items }
+    ensures on { icc_on icc.new ≡ true }
+    ensures same { KeepsIcc icc.old icc.new }
 {
-    prove!(chip.is_on());
+    prove!(icc.is_on());
     let mut command = Out::new();
     write_question(question, &mut command);
     let mut answer = Answer::new();
-    let Ok(()) = chip.process(command.as_slice(), &mut answer) else {
+    let Ok(()) = icc.process(command.as_slice(), &mut answer) else {
         unreachable!();
     };
-    add_audit(
+    tell_audit(
         card.name.as_slice(),
         command.as_slice(),
         answer.as_slice(),

@@ -6,10 +6,10 @@ ghost use Rattle.emv_ports.specs.Memory.{Memory, IsBlank};
 ghost use Rattle.scenario.specs.CardRules.{IsKind};
 ghost use Rattle.scenario.specs.Seen.{seen_cards};
 ghost use Rattle.scenario_lanes.specs.Plan.{HaveRoom};
-ghost use Rattle.txn_replay.specs.Banked.{AreNew, AreGiven, IsNewStore, AreNewStores, StoresAreGiven, IsStoreGiven, stores_in, with_pages, with_stores};
+ghost use Rattle.txn_replay.specs.Banked.{HasRoomFor, StaysBlank, AreNew, AreGiven, IsNewStore, AreNewStores, StoresAreGiven, IsStoreGiven, stores_in, with_pages, with_stores};
 
-use crate::slot::Slot;
-use capture_store::Shelf;
+use crate::run_card::RunCard;
+use capture_store::LaneStore;
 use emv_ports::Pages;
 use scenario::NamedCard;
 use scenario_lanes::{LAST_PAGES, Lane as Terminal};
@@ -19,22 +19,21 @@ use scenario_lanes::{LAST_PAGES, Lane as Terminal};
 pub(crate) fn take_pages<'s, P: Pages>(
     cards: &'s [NamedCard],
     bank: &mut Vec<P>,
-    slots: &mut Vec<Slot<'s, P>>,
+    run_cards: &mut Vec<RunCard<'s, P>>,
 )
-    requires none { slots.old.items ≡ [] }
-    requires room { length cards.now ≤ vec_capacity slots.old }
+    requires room { HasRoomFor (length cards.now) run_cards.old.items (vec_capacity run_cards.old) }
     requires pages { length cards.now ≤ vec_len bank.old }
     requires kinds { All (λ card. IsKind card.image card.canned) (seen_cards cards.now) }
     requires blank { All IsBlank (map P.memory bank.old.items) }
-    ensures new { AreNew (seen_cards cards.now) slots.new.items }
-    ensures count { vec_len slots.new ≡ length cards.now }
+    ensures new { AreNew (seen_cards cards.now) run_cards.new.items }
+    ensures count { vec_len run_cards.new ≡ length cards.now }
     ensures spare { map P.memory bank.new.items ≡ drop (length cards.now) (map P.memory bank.old.items) }
     ensures place { vec_len bank.new + length cards.now ≡ vec_len bank.old }
     ensures capacity { vec_capacity bank.new ≡ vec_capacity bank.old }
 {
     for card in cards {
         let pages = bank.remove(0);
-        let Ok(()) = slots.push(Slot::new(card, pages)) else {
+        let Ok(()) = run_cards.push(RunCard::new(card, pages)) else {
             unreachable!();
         };
     }
@@ -45,70 +44,67 @@ pub(crate) fn take_pages<'s, P: Pages>(
 pub(crate) fn take_stores<P: Pages>(
     terminals: &[Terminal],
     bank: &mut Vec<P>,
-    shelves: &mut Vec<Shelf<P>>,
+    lane_stores: &mut Vec<LaneStore<P>>,
 )
-    requires none { shelves.old.items ≡ [] }
-    requires room { length terminals.now ≤ vec_capacity shelves.old }
+    requires room { HasRoomFor (length terminals.now) lane_stores.old.items (vec_capacity lane_stores.old) }
     requires few { length terminals.now ≤ 16 }
     requires pages { vec_len bank.old ≡ 64 }
     requires blank { All IsBlank (map P.memory bank.old.items) }
-    ensures new { AreNewStores terminals.now shelves.new.items }
-    ensures count { vec_len shelves.new ≡ length terminals.now }
-    ensures pages { vec_len bank.new + stores_in shelves.new.items ≡ 64 }
+    ensures new { AreNewStores terminals.now lane_stores.new.items }
+    ensures count { vec_len lane_stores.new ≡ length terminals.now }
+    ensures pages { vec_len bank.new + stores_in lane_stores.new.items ≡ 64 }
     ensures left { (cards : ℕ) → cards ≤ 64 → HaveRoom cards terminals.now → cards ≤ vec_len bank.new }
-    ensures blank { All IsBlank (map P.memory bank.new.items) }
-    ensures capacity { vec_capacity bank.new ≡ vec_capacity bank.old }
+    ensures bank { StaysBlank (map P.memory bank.new.items) (vec_capacity bank.old) (vec_capacity bank.new) }
 {
     for (index, terminal) in terminals.iter().enumerate() {
-        let shelf = take_store(terminal.durable, LAST_PAGES - index, bank);
-        let Ok(()) = shelves.push(shelf) else {
+        let lane_store = take_store(terminal.durable, LAST_PAGES - index, bank);
+        let Ok(()) = lane_stores.push(lane_store) else {
             unreachable!();
         };
     }
 }
 
 /// A store on the pages at this place, where the lane keeps its captures durably.
-fn take_store<P: Pages>(durable: bool, place: usize, bank: &mut Vec<P>) -> Shelf<P>
+fn take_store<P: Pages>(durable: bool, place: usize, bank: &mut Vec<P>) -> LaneStore<P>
     requires place { durable ≡ true → place < vec_len bank.old }
     requires blank { All IsBlank (map P.memory bank.old.items) }
     ensures new { IsNewStore result durable }
     ensures length { vec_len bank.new + stores_in (result ∷ []) ≡ vec_len bank.old }
     ensures some { is_some result ≡ durable }
-    ensures blank { All IsBlank (map P.memory bank.new.items) }
-    ensures capacity { vec_capacity bank.new ≡ vec_capacity bank.old }
+    ensures bank { StaysBlank (map P.memory bank.new.items) (vec_capacity bank.old) (vec_capacity bank.new) }
 {
     if durable {
-        return Shelf::new(bank.remove(place));
+        return LaneStore::new(bank.remove(place));
     }
-    Shelf::absent()
+    LaneStore::absent()
 }
 
 /// The stores' pages, off, stand at their own places again, those of the last lane first.
-pub(crate) fn give_stores<P: Pages>(shelves: Vec<Shelf<P>>, bank: Vec<P>) -> Vec<P>
-    requires few { vec_len shelves ≤ 16 }
-    requires pages { vec_len bank + stores_in shelves.items ≡ 64 }
+pub(crate) fn give_stores<P: Pages>(lane_stores: Vec<LaneStore<P>>, bank: Vec<P>) -> Vec<P>
+    requires few { vec_len lane_stores ≤ 16 }
+    requires pages { vec_len bank + stores_in lane_stores.items ≡ 64 }
     requires capacity { 64 ≤ vec_capacity bank }
-    ensures given { (pages : List (Option Memory)) × StoresAreGiven shelves.items pages
+    ensures given { (pages : List (Option Memory)) × StoresAreGiven lane_stores.items pages
         × (map P.memory result.items ≡ with_stores 0 pages (map P.memory bank.items)) }
     ensures length { vec_len result ≡ 64 }
 {
-    let mut shelves = shelves;
+    let mut lane_stores = lane_stores;
     let mut bank = bank;
-    while let Some(shelf) = shelves.pop() {
-        put_back(shelf, LAST_PAGES - shelves.len(), &mut bank);
+    while let Some(lane_store) = lane_stores.pop() {
+        put_back(lane_store, LAST_PAGES - lane_stores.len(), &mut bank);
     }
     bank
 }
 
 /// A store's pages stand at this place again, where there is a store.
-fn put_back<P: Pages>(shelf: Shelf<P>, place: usize, bank: &mut Vec<P>)
+fn put_back<P: Pages>(lane_store: LaneStore<P>, place: usize, bank: &mut Vec<P>)
     requires place { place ≤ vec_len bank.old }
-    requires room { vec_len bank.old + stores_in (shelf ∷ []) ≤ vec_capacity bank.old }
-    ensures given { (pages : Option Memory) × IsStoreGiven shelf pages × (map P.memory bank.new.items ≡ with_pages place pages (map P.memory bank.old.items)) }
-    ensures length { vec_len bank.new ≡ vec_len bank.old + stores_in (shelf ∷ []) }
+    requires room { vec_len bank.old + stores_in (lane_store ∷ []) ≤ vec_capacity bank.old }
+    ensures given { (pages : Option Memory) × IsStoreGiven lane_store pages × (map P.memory bank.new.items ≡ with_pages place pages (map P.memory bank.old.items)) }
+    ensures length { vec_len bank.new ≡ vec_len bank.old + stores_in (lane_store ∷ []) }
     ensures capacity { vec_capacity bank.old ≤ vec_capacity bank.new }
 {
-    if let Some(pages) = shelf.into_pages() {
+    if let Some(pages) = lane_store.into_pages() {
         let Ok(()) = bank.insert(place, pages) else {
             unreachable!();
         };
@@ -116,17 +112,17 @@ fn put_back<P: Pages>(shelf: Shelf<P>, place: usize, bank: &mut Vec<P>)
 }
 
 /// The cards' pages, off, stand before the pages that no card had.
-pub(crate) fn give_pages<P: Pages>(slots: Vec<Slot<'_, P>>, spare: Vec<P>) -> Vec<P>
-    requires place { vec_len slots + vec_len spare ≤ vec_capacity spare }
-    ensures given { AreGiven slots.entry.items 0 (map P.memory result.items) }
-    ensures spare { drop (length slots.entry.items) (map P.memory result.items) ≡ map P.memory spare.items }
-    ensures length { vec_len result ≡ length slots.entry.items + length spare.items }
+pub(crate) fn give_pages<P: Pages>(run_cards: Vec<RunCard<'_, P>>, spare: Vec<P>) -> Vec<P>
+    requires place { vec_len run_cards + vec_len spare ≤ vec_capacity spare }
+    ensures given { AreGiven run_cards.entry.items 0 (map P.memory result.items) }
+    ensures spare { drop (length run_cards.entry.items) (map P.memory result.items) ≡ map P.memory spare.items }
+    ensures length { vec_len result ≡ length run_cards.entry.items + length spare.items }
     ensures capacity { vec_capacity spare ≤ vec_capacity result }
 {
-    let mut slots = slots;
+    let mut run_cards = run_cards;
     let mut bank = spare;
-    while let Some(slot) = slots.pop() {
-        let Ok(()) = bank.insert(0, slot.into_pages()) else {
+    while let Some(run_card) = run_cards.pop() {
+        let Ok(()) = bank.insert(0, run_card.into_pages()) else {
             unreachable!();
         };
     }

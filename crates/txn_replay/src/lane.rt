@@ -1,19 +1,19 @@
 //! A lane of a run: a terminal with its purchases.
-ghost use Rattle.std.specs.Prelude.{◌≡◌, ◌+◌, ◌≤◌, ◌<◌, ◌^◌, ◌++◌, ◌∷◌, [], ℕ, List, length, true, false, if◌then◌else◌, IsSomeAnd, Some, None, Option, IsSome, IfOk, OnOk, sum_by, option_map, option_to_list};
+ghost use Rattle.std.specs.Prelude.{◌≡◌, ◌+◌, ◌≤◌, ◌<◌, ◌++◌, ◌∷◌, [], List, length, true, false, if◌then◌else◌, IsSomeAnd, Some, None, Option, IsSome, IfOk, OnOk, sum_by, option_map, option_to_list};
 ghost use Rattle.std.specs.List.{All};
 ghost use Rattle.std.specs.Vec.{vec_len, vec_capacity};
 ghost use Rattle.auth_message.specs.Whole.{IsMessage};
-ghost use Rattle.emv_dict.specs.Settings.{IsSettings, most_amount};
+ghost use Rattle.emv_dict.specs.Settings.{most_amount};
 ghost use Rattle.emv_dict.specs.Views.{PurchaseData};
 ghost use Rattle.issuer_host.specs.Account.{AccountData};
 ghost use Rattle.issuer_host.specs.declared.keys.HostKeys.{HostKeys};
 ghost use Rattle.kernel.specs.Ended.{EndData};
-ghost use Rattle.kernel.specs.Kernel.{next_of};
+ghost use Rattle.kernel.specs.Kernel.{kernel_next};
 ghost use Rattle.kernel.specs.Reply.{Reply};
 ghost use Rattle.kernel.specs.Tally.{raised};
 ghost use Rattle.kernel.specs.declared.kernel.Next.TheVariants as next;
 ghost use Rattle.object_lists.specs.CardRead.{ReadCard};
-ghost use Rattle.capture_store.specs.SeenShelf.{is_on as has_power, count_of};
+ghost use Rattle.capture_store.specs.SeenLaneStore.{has_power, count_of};
 ghost use Rattle.capture_store.specs.Waits.{HasSpace};
 ghost use Rattle.emv_ports.specs.declared.tear.Tear.{Tear as Plan};
 ghost use Rattle.report_text.specs.declared.line.Line.TheVariants.{EndLost};
@@ -22,8 +22,7 @@ ghost use Rattle.txn_replay.specs.Stocking.{IsStoredBy, IsNoRequest};
 ghost use Rattle.txn_replay.specs.Part.{lane_ended, loses, approval};
 ghost use Rattle.txn_replay.specs.declared.lane.Outcome.TheVariants as outcome;
 ghost use Rattle.txn_replay.specs.Payment.{end_at};
-ghost use Rattle.scenario_lanes.specs.Plan.{IsPlanned};
-ghost use Rattle.txn_replay.specs.Standing.{SameLane, card_in, LaneKeeps, LaneStands, ShelfStands, HasRoom, HasTaken, lane_left, shelf_left, seen_payment};
+ghost use Rattle.txn_replay.specs.Standing.{SameLane, card_last_read, LaneKeeps, LaneStands, LaneStoreStands, HasRoomForCapture, lane_left, lane_store_left, seen_payment, MayBegin, MayFinish};
 ghost use Rattle.txn_replay.specs.Storing.{lane_lost};
 ghost use Rattle.txn_replay.specs.Seen.{IsNewLane, done_below, is_lane_done};
 ghost use Rattle.txn_replay.specs.World.{LaneRow};
@@ -31,7 +30,7 @@ ghost use Rattle.txn_replay.specs.World.{LaneRow};
 use crate::lines::{Lines, end_parts};
 use crate::payment::Payment;
 use auth_message::Message;
-use capture_store::{Shelf, Waiting};
+use capture_store::{LaneStore, Waiting};
 use emv_dict::{Digits, Ending, Logged};
 use emv_ports::{Gone, Pages};
 use kernel::{Capture, EndRecord, Kernel, Tally};
@@ -58,8 +57,6 @@ pub(crate) struct Lane<'s> {
 /// Makes room for an approval and for what is captured, and where no purchase runs for the dialogue of the next
 /// one. After `AllocError` the lane has at most more room than before.
 pub(crate) fn make_room<'s>(at: &Payment<'s>, lane: &mut Lane<'s>) -> Result<(), AllocError>
-    requires settings { IsSettings at.now.settings.now }
-    requires planned { IsPlanned at.now.planned.now }
     ensures same { SameLane lane.old lane.new }
     ensures place { OnOk result (lane.new.running ≡ None → IsSome lane.new.place) }
     ensures log { OnOk result (vec_len lane.new.log < vec_capacity lane.new.log) }
@@ -91,32 +88,24 @@ pub(crate) enum Outcome {
 pub(crate) fn finish<'s, P: Pages>(
     at: &Payment<'s>,
     lane: &mut Lane<'s>,
-    shelf: &mut Shelf<P>,
+    lane_store: &mut LaneStore<P>,
     tally: &mut Tally,
     lines: &mut Lines,
 )
-    requires over { IsSomeAnd lane.old.running (λ kernel. next_of kernel.value ≡ next.Ended) }
-    requires fresh { IsSomeAnd lane.old.running (λ kernel. kernel.value.is_spent ≡ false) }
-    requires few { lane.old.ended < 10000 }
-    requires log { vec_len lane.old.log < vec_capacity lane.old.log }
-    requires captures { HasSpace lane.old.captures }
-    requires amount { at.now.planned.now.purchase.amount ≤ most_amount }
-    requires amounts { All (λ logged. logged.amount ≤ most_amount) lane.old.log.items }
-    requires room { HasRoom shelf.old at.now.durable }
-    requires taken { HasTaken lane.old.running }
-    requires lines { length lines.old.items < 8 }
+    requires over { IsSomeAnd lane.old.running (λ kernel. kernel_next kernel.value ≡ next.Ended) }
+    requires ready { MayFinish lane.old lane_store.old at.now.durable lines.old.items }
     ensures stands { (issuer : HostKeys) (accounts : List AccountData) (replies : List Reply) (row : LaneRow)
         → LaneStands lane.old (seen_payment issuer accounts at.now) (record row { running = Some replies })
-        → ShelfStands shelf.old (seen_payment issuer accounts at.now) row
+        → LaneStoreStands lane_store.old (seen_payment issuer accounts at.now) row
         → (end : EndData) × (end_at (seen_payment issuer accounts at.now) replies ≡ Some end)
         × LaneStands lane.new (seen_payment issuer accounts at.now) (lane_ended (seen_payment issuer accounts at.now) replies end row)
-        × ShelfStands shelf.new (seen_payment issuer accounts at.now) (lane_ended (seen_payment issuer accounts at.now) replies end row)
+        × LaneStoreStands lane_store.new (seen_payment issuer accounts at.now) (lane_ended (seen_payment issuer accounts at.now) replies end row)
         × (lines.new.items ≡ lines.old.items ++ outcome_line (loses (seen_payment issuer accounts at.now) row.store end.capture) at.now.lane (length row.ended + 1) end ∷ [])
         × (tally.new ≡ raised tally.old end.ending (length replies)) }
     ensures amounts { All (λ logged. logged.amount ≤ most_amount) lane.new.log.items }
     ensures ended { lane.new.ended ≡ lane.old.ended + 1 }
     ensures rests { lane.new.running ≡ None }
-    ensures nearer { lane_left lane.new + shelf_left shelf.new < lane_left lane.old + shelf_left shelf.old }
+    ensures nearer { lane_left lane.new + lane_store_left lane_store.new < lane_left lane.old + lane_store_left lane_store.old }
 {
     let Some(mut kernel) = lane.running.take() else {
         unreachable!();
@@ -137,7 +126,7 @@ pub(crate) fn finish<'s, P: Pages>(
         capture,
     } = ended;
     lane.ending = Some(ending);
-    match keep_capture(at, &mut lane.captures, shelf, capture) {
+    match keep_capture(at, &mut lane.captures, lane_store, capture) {
         Outcome::Told => {
             lines.end(at.lane, lane.ended, parts);
             add_approval(&mut lane.log, ending, pan, amount_of(at.planned));
@@ -150,41 +139,41 @@ pub(crate) fn finish<'s, P: Pages>(
 fn keep_capture<P: Pages>(
     at: &Payment<'_>,
     captures: &mut Waiting,
-    shelf: &mut Shelf<P>,
+    lane_store: &mut LaneStore<P>,
     capture: Option<Capture>,
 ) -> Outcome
     requires captures { HasSpace captures.old }
-    requires room { HasRoom shelf.old at.now.durable }
+    requires room { HasRoomForCapture lane_store.old at.now.durable }
     requires settles { IsNoRequest capture }
     ensures waits { captures.new.messages ≡ captures.old.messages ++ (if at.now.durable then [] else option_to_list capture) }
     ensures read { All IsMessage (option_to_list capture) }
-    ensures stored { at.now.durable ≡ true → IsStoredBy shelf.old shelf.new at.now.planned.now.terminal_tear capture result }
-    ensures told { at.now.durable ≡ false → (result ≡ outcome.Told) × (shelf.new ≡ shelf.old) }
+    ensures stored { at.now.durable ≡ true → IsStoredBy lane_store.old lane_store.new at.now.planned.now.terminal_tear capture result }
+    ensures told { at.now.durable ≡ false → (result ≡ outcome.Told) × (lane_store.new ≡ lane_store.old) }
 {
     if at.durable {
-        return store_capture(shelf, capture);
+        return store_capture(lane_store, capture);
     }
     add_capture(captures, capture);
     Outcome::Told
 }
 
 /// What is captured joins the messages of the store, which is turned off then.
-fn store_capture<P: Pages>(shelf: &mut Shelf<P>, capture: Option<Capture>) -> Outcome
-    requires on { has_power shelf.old ≡ true }
-    requires room { count_of shelf.old < 7 }
+fn store_capture<P: Pages>(lane_store: &mut LaneStore<P>, capture: Option<Capture>) -> Outcome
+    requires on { has_power lane_store.old ≡ true }
+    requires room { count_of lane_store.old < 7 }
     requires settles { IsNoRequest capture }
-    ensures stored { (plan : Option Plan) → IsStoredBy shelf.old shelf.new plan capture result }
+    ensures stored { (plan : Option Plan) → IsStoredBy lane_store.old lane_store.new plan capture result }
     ensures read { All IsMessage (option_to_list capture) }
 {
     let Some(capture) = capture else {
-        shelf.power_off();
+        lane_store.power_off();
         return Outcome::Told;
     };
     let mut message = Message::new();
     capture.into_message(&mut message);
-    match shelf.add(message.as_slice()) {
+    match lane_store.add(message.as_slice()) {
         Ok(()) => {
-            shelf.power_off();
+            lane_store.power_off();
             Outcome::Told
         }
         Err(Gone) => Outcome::Lost,
@@ -193,8 +182,7 @@ fn store_capture<P: Pages>(shelf: &mut Shelf<P>, capture: Option<Capture>) -> Ou
 
 /// The purchase that is next is lost before its card is powered up.
 pub(crate) fn lose_purchase(at: &Payment<'_>, lane: &mut Lane<'_>, lines: &mut Lines)
-    requires few { lane.old.ended < 10000 }
-    requires rests { lane.old.running ≡ None }
+    requires begins { MayBegin lane.old }
     requires lines { length lines.old.items < 8 }
     ensures keeps { (row : LaneRow) → LaneKeeps lane.old row → LaneKeeps lane.new (lane_lost row) }
     ensures line { lines.new.items ≡ lines.old.items ++ EndLost at.now.lane lane.new.ended ∷ [] }
@@ -209,7 +197,7 @@ pub(crate) fn lose_purchase(at: &Payment<'_>, lane: &mut Lane<'_>, lines: &mut L
 
 /// What reading gave in the dialogue of this place.
 pub(crate) fn data_in<'a>(place: &'a Option<Box<Kernel<'_>>>) -> Option<&'a CardData>
-    ensures { option_map (λ card. card.now) result ≡ card_in place.now }
+    ensures { option_map (λ card. card.now) result ≡ card_last_read place.now }
 {
     match place {
         Some(kernel) => kernel.data(),

@@ -8,7 +8,7 @@ ghost use Rattle.txn_replay.specs.Respelled.{DialectsShow, WholeDialectsShow};
 ghost use Rattle.txn_replay.specs.StandAlone.{LanesStandAlone, CarriedAreOwn, FirstPartsAgree, StepsComeApart, AloneIsOwn, LaneRunIsOne};
 ghost use Rattle.txn_replay.specs.Stored.{StoresAreKept, SettlementGoesThrough, StoresAreEmptied};
 ghost use Rattle.txn_replay.specs.Telling.{GivenIsTold, GivenIsLeft, HeldIsSure, AnsweredIsSure};
-ghost use Rattle.txn_replay.specs.Told.{RunsTellLosses, WholeRunsTellLosses, RunsTellReplies, RunsTellMessages, PastsEnd};
+ghost use Rattle.txn_replay.specs.ToldByLines.{RunsTellLosses, WholeRunsTellLosses, RunsTellReplies, RunsTellMessages, PastsEnd};
 
 use host_histories::{accounts_stand_apart, transactions_are_booked_once};
 

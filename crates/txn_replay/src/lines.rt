@@ -1,9 +1,9 @@
 //! The lines of a report, as they are made.
-ghost use Rattle.std.specs.Prelude.{◌≡◌, ◌+◌, ◌≤◌, ◌<◌, ◌++◌, ◌∷◌, [], length, option_map, IfSome};
+ghost use Rattle.std.specs.Prelude.{◌≡◌, ◌≤◌, ◌<◌, ◌∷◌, [], length, option_map, IfSome};
 ghost use Rattle.card_counters.specs.Counters.{shown_all};
 ghost use Rattle.kernel.specs.Ended.{EndData};
-ghost use Rattle.kernel.specs.Shown.{shown as shown_end};
-ghost use Rattle.report_text.specs.declared.line.Line.TheVariants.{Power, PowerTorn, AuditPower, AuditAsk, AuditAnswer};
+ghost use Rattle.kernel.specs.EndShown.{shown_end};
+ghost use Rattle.report_text.specs.declared.line.Line.TheVariants.{Power, PowerCanned, PowerTorn, AuditPower, AuditAsk, AuditAnswer};
 ghost use Rattle.txn_replay.specs.Lines as spec;
 
 use arrayvec::ArrayVec;
@@ -50,35 +50,25 @@ pub(crate) fn name_of(name: &[u8]) -> ArrayVec<u8, 16>
     copy
 }
 
-/// A command that is answered.
-pub(crate) fn add_answer(lane: u8, command: &[u8], answer: &[u8], lines: &mut Lines)
-    requires room { length lines.old.items < 7 }
+/// A command that is answered, in place of what the lines held.
+pub(crate) fn tell_answer(lane: u8, command: &[u8], answer: &[u8], lines: &mut Lines)
     requires command { length command.now ≤ 261 }
     requires answer { length answer.now ≤ 258 }
-    ensures { lines.new.items ≡ lines.old.items ++ spec.answer_lines lane command.now answer.now }
+    ensures { lines.new.items ≡ spec.answer_lines lane command.now answer.now }
 {
+    lines.clear();
     lines.to_card(lane, command);
     lines.from_card(lane, answer);
 }
 
-/// A command for which no canned answer is left.
-pub(crate) fn add_gone(lane: u8, command: &[u8], lines: &mut Lines)
-    requires room { length lines.old.items < 7 }
-    requires command { length command.now ≤ 261 }
-    ensures { lines.new.items ≡ lines.old.items ++ spec.gone_lines lane command.now }
-{
-    lines.to_card(lane, command);
-    lines.gone(lane);
-}
-
-/// What stood on the wire to the host, and what came back, or silence.
-pub(crate) fn add_host(lane: u8, call: &[u8], reply: Option<&[u8]>, lines: &mut Lines)
-    requires room { length lines.old.items < 7 }
+/// What stood on the wire to the host, and what came back, or silence, in place of what the lines held.
+pub(crate) fn tell_host(lane: u8, call: &[u8], reply: Option<&[u8]>, lines: &mut Lines)
     requires call { length call.now ≤ 2048 }
     requires reply { IfSome reply (λ reply. length reply.now ≤ 2048) }
-    ensures lines { lines.new.items ≡ lines.old.items ++ spec.wire_lines lane call.now (option_map (λ reply. reply.now) reply.entry) }
-    ensures count { length lines.new.items ≡ length lines.old.items + 2 }
+    ensures lines { lines.new.items ≡ spec.wire_lines lane call.now (option_map (λ reply. reply.now) reply.entry) }
+    ensures count { length lines.new.items ≡ 2 }
 {
+    lines.clear();
     lines.to_host(lane, call);
     match reply {
         Some(reply) => lines.from_host(lane, reply),
@@ -86,42 +76,58 @@ pub(crate) fn add_host(lane: u8, call: &[u8], reply: Option<&[u8]>, lines: &mut 
     }
 }
 
-/// A card is powered up.
-pub(crate) fn add_power(lane: u8, name: &[u8], image: &Image, state: &CardState, lines: &mut Lines)
-    requires room { length lines.old.items < 8 }
-    requires name { length name.now ≤ 16 }
-    ensures { lines.new.items ≡ lines.old.items ++ Power lane (record { items = name.now }) (record { items = shown_all image.now.apps state.now }) ∷ [] }
+/// A card is powered up: this line alone.
+pub(crate) fn tell_power(
+    lane: u8,
+    name: ArrayVec<u8, 16>,
+    image: &Image,
+    state: &CardState,
+    lines: &mut Lines,
+)
+    ensures { lines.new.items ≡ Power lane (record { items = name.items }) (record { items = shown_all image.now.apps state.now }) ∷ [] }
 {
-    lines.power(lane, name_of(name), shown_all(image, state));
+    lines.clear();
+    lines.power(lane, name, shown_all(image, state));
 }
 
-/// The power is cut as a card is powered up.
-pub(crate) fn add_power_torn(lane: u8, name: &[u8], lines: &mut Lines)
-    requires room { length lines.old.items < 8 }
-    requires name { length name.now ≤ 16 }
-    ensures { lines.new.items ≡ lines.old.items ++ PowerTorn lane (record { items = name.now }) ∷ [] }
+/// A card of canned answers is powered up: this line alone.
+pub(crate) fn tell_power_canned(lane: u8, name: ArrayVec<u8, 16>, lines: &mut Lines)
+    ensures { lines.new.items ≡ PowerCanned lane (record { items = name.items }) ∷ [] }
 {
-    lines.power_torn(lane, name_of(name));
+    lines.clear();
+    lines.power_canned(lane, name);
 }
 
-/// A card is powered up for the audit.
-pub(crate) fn add_audit_power(name: &[u8], image: &Image, state: &CardState, lines: &mut Lines)
-    requires room { length lines.old.items < 8 }
-    requires name { length name.now ≤ 16 }
-    ensures { lines.new.items ≡ lines.old.items ++ AuditPower (record { items = name.now }) (record { items = shown_all image.now.apps state.now }) ∷ [] }
+/// The power is cut as a card is powered up: this line alone.
+pub(crate) fn tell_power_torn(lane: u8, name: ArrayVec<u8, 16>, lines: &mut Lines)
+    ensures { lines.new.items ≡ PowerTorn lane (record { items = name.items }) ∷ [] }
 {
-    lines.audit_power(name_of(name), shown_all(image, state));
+    lines.clear();
+    lines.power_torn(lane, name);
 }
 
-/// A command of the audit, and its answer.
-pub(crate) fn add_audit(name: &[u8], command: &[u8], answer: &[u8], lines: &mut Lines)
-    requires room { length lines.old.items < 7 }
+/// A card is powered up for the audit: this line alone.
+pub(crate) fn tell_audit_power(
+    name: ArrayVec<u8, 16>,
+    image: &Image,
+    state: &CardState,
+    lines: &mut Lines,
+)
+    ensures { lines.new.items ≡ AuditPower (record { items = name.items }) (record { items = shown_all image.now.apps state.now }) ∷ [] }
+{
+    lines.clear();
+    lines.audit_power(name, shown_all(image, state));
+}
+
+/// A command of the audit and its answer, in place of what the lines held.
+pub(crate) fn tell_audit(name: &[u8], command: &[u8], answer: &[u8], lines: &mut Lines)
     requires name { length name.now ≤ 16 }
     requires command { length command.now ≤ 261 }
     requires answer { length answer.now ≤ 258 }
-    ensures { lines.new.items ≡ lines.old.items ++ AuditAsk (record { items = name.now }) (record { items = command.now })
+    ensures { lines.new.items ≡ AuditAsk (record { items = name.now }) (record { items = command.now })
         ∷ AuditAnswer (record { items = name.now }) (record { items = answer.now }) ∷ [] }
 {
+    lines.clear();
     lines.audit_ask(name_of(name), command);
     lines.audit_answer(name_of(name), answer);
 }

@@ -1,24 +1,25 @@
 //! The settlement: by lane, its captures by purchase, or the opening of its store and what it found.
-ghost use Rattle.std.specs.Prelude.{◌≡◌, ◌≤◌, ◌<◌, ◌+◌, ◌++◌, ◌∷◌, [], ℕ, List, Bool, true, length, slice_get, Some, None, IfOk, OnOk, OnErr};
+ghost use Rattle.std.specs.Prelude.{◌≡◌, ◌≤◌, ◌<◌, ◌+◌, ◌++◌, ◌∷◌, [], ℕ, List, Bool, true, length, slice_get, Some, None, OnOk, OnErr};
 ghost use Rattle.std.specs.List.{All};
 ghost use Rattle.auth_message.specs.Message.{message_of};
 ghost use Rattle.auth_message.specs.Whole.{IsMessage};
-ghost use Rattle.capture_store.specs.SeenShelf.{ShelfOn, ShelfOff, IsShelfOff, losses_of, is_on as has_power};
+ghost use Rattle.capture_store.specs.SeenLaneStore.{LaneStoreOn, LaneStoreOff, IsLaneStoreOff, store_losses};
 ghost use Rattle.capture_store.specs.StoreRow.{StoreRow, opened_to_settle};
-ghost use Rattle.issuer_host.specs.History.{HostStands, host_reply, is_new};
+ghost use Rattle.issuer_host.specs.History.{HostStands, host_reply, is_new_message};
 ghost use Rattle.scenario.specs.Plan.{IsScenario};
 ghost use Rattle.txn_replay.specs.Lines.{settle_lines};
 ghost use Rattle.txn_replay.specs.Payment.{durable_of};
-ghost use Rattle.txn_replay.specs.Settling.{AreRows, IsStepOf, steps_of as steps_in, step_in as found_in};
+ghost use Rattle.txn_replay.specs.Standing.{KeepsIssuer};
+ghost use Rattle.txn_replay.specs.Settling.{LanesKeep, IsStepOf, steps_of as steps_in, step_in as found_in};
 ghost use Rattle.txn_replay.specs.Steps.{settlements_from, settled_store};
 ghost use Rattle.txn_replay.specs.World.{LaneRow};
 
 use crate::lane::Lane;
 use crate::lines::Lines;
-use crate::payment::is_durable;
+use crate::purchases::is_durable;
 use crate::storing::copy_first;
 use auth_message::Message;
-use capture_store::Shelf;
+use capture_store::LaneStore;
 use emv_ports::Pages;
 use host_link::{Wire, deliver};
 use issuer_host::Host;
@@ -84,7 +85,7 @@ pub(crate) fn settlement<'a>(
     requires scenario { IsScenario scenario.now }
     requires few { length lanes.now ≤ 16 }
     requires captures { All (λ lane. length lane.captures.messages ≤ 10000) lanes.now }
-    ensures { (rows : List LaneRow) → AreRows lanes.now rows → IsStepOf (durable_of scenario.now) (slice_get (settlements_from scenario.now 0 rows) number) result }
+    ensures { (rows : List LaneRow) → LanesKeep lanes.now rows → IsStepOf (durable_of scenario.now) (slice_get (settlements_from scenario.now 0 rows) number) result }
 {
     let copies = usize::from(scenario.copies);
     let mut left = number as usize;
@@ -112,14 +113,13 @@ pub(crate) fn send(
     requires message { iso ≡ true → IsMessage message.now }
     requires room { length lines.old.items < 7 }
     requires stands { (messages : List (List ℕ)) × HostStands host.old messages }
-    ensures lines { OnOk result ((messages : List (List ℕ)) → HostStands host.old messages
-        → lines.new.items ≡ lines.old.items ++ settle_lines iso lane message.now (host_reply host.old.keys host.old.accounts messages message.now)) }
+    ensures sent { OnOk result ((messages : List (List ℕ)) → HostStands host.old messages
+        → (lines.new.items ≡ lines.old.items ++ settle_lines iso lane message.now (host_reply host.old.keys host.old.accounts messages message.now))
+        × HostStands host.new (messages ++ message.now ∷ [])) }
     ensures two { OnOk result (length lines.new.items ≡ length lines.old.items + 2) }
-    ensures stands { OnOk result ((messages : List (List ℕ)) → HostStands host.old messages → HostStands host.new (messages ++ message.now ∷ [])) }
-    ensures keys { host.new.keys ≡ host.old.keys }
-    ensures accounts { host.new.accounts ≡ host.old.accounts }
+    ensures issuer { KeepsIssuer host.old host.new }
     ensures err { OnErr result ((host.new ≡ host.old) × (lines.new.items ≡ lines.old.items)) }
-    ensures memory { OnErr result (is_new host.old.books (message_of message.now) ≡ true) }
+    ensures memory { OnErr result (is_new_message host.old.books (message_of message.now) ≡ true) }
 {
     let mut wire = Wire::new();
     let mut reply = Message::new();
@@ -130,47 +130,46 @@ pub(crate) fn send(
 }
 
 /// A lane's store is opened for settlement, without a plan.
-pub(crate) fn open_to_settle<P: Pages>(lane: &mut Lane<'_>, shelf: &mut Shelf<P>)
-    requires off { IsShelfOff shelf.old }
-    ensures opened { (row : StoreRow) → ShelfOff shelf.old row
-        → (found : Bool) × ShelfOn shelf.new (opened_to_settle row found) None × (lane.new.found ≡ Some (length (opened_to_settle row found).list)) }
-    ensures losses { losses_of shelf.new ≡ losses_of shelf.old }
+pub(crate) fn open_to_settle<P: Pages>(lane: &mut Lane<'_>, lane_store: &mut LaneStore<P>)
+    requires off { IsLaneStoreOff lane_store.old }
+    ensures opened { (row : StoreRow) → LaneStoreOff lane_store.old row
+        → (found : Bool) × LaneStoreOn lane_store.new (opened_to_settle row found) None × (lane.new.found ≡ Some (length (opened_to_settle row found).list)) }
+    ensures losses { store_losses lane_store.new ≡ store_losses lane_store.old }
     ensures same { lane.new ≡ record lane.old { found = lane.new.found } }
 {
-    let Ok(()) = shelf.open(None) else {
+    let Ok(()) = lane_store.open(None) else {
         unreachable!();
     };
-    lane.found = Some(shelf.count() as u8);
+    lane.found = Some(lane_store.count() as u8);
 }
 
-/// The oldest message of a lane's store, which is on without a plan, is sent, and dropped behind its last copy.
-/// After `AllocError` nothing has changed.
+/// The oldest message of a lane's store, which is on without a plan, is sent, and dropped behind its last copy. Its
+/// lines stand in place of what the lines held; after `AllocError` there are none, and nothing else has changed.
 pub(crate) fn drain<P: Pages>(
     iso: bool,
     lane: u8,
     drops: bool,
-    shelf: &mut Shelf<P>,
+    lane_store: &mut LaneStore<P>,
     host: &mut Host<'_>,
     lines: &mut Lines,
 ) -> Result<(), AllocError>
-    requires on { (row : StoreRow) × ShelfOn shelf.old row None × (0 < length row.list) × All IsMessage row.list }
-    requires lines { lines.old.items ≡ [] }
+    requires on { (row : StoreRow) × LaneStoreOn lane_store.old row None × (0 < length row.list) × All IsMessage row.list }
     requires stands { (messages : List (List ℕ)) × HostStands host.old messages }
-    ensures drained { OnOk result ((row : StoreRow) → ShelfOn shelf.old row None → ShelfOn shelf.new (settled_store drops row) None) }
-    ensures lines { OnOk result ((row : StoreRow) (message : List ℕ) (messages : List (List ℕ)) → ShelfOn shelf.old row None
+    ensures drained { OnOk result ((row : StoreRow) → LaneStoreOn lane_store.old row None → LaneStoreOn lane_store.new (settled_store drops row) None) }
+    ensures lines { OnOk result ((row : StoreRow) (message : List ℕ) (messages : List (List ℕ)) → LaneStoreOn lane_store.old row None
         → slice_get row.list 0 ≡ Some message → HostStands host.old messages
         → (lines.new.items ≡ settle_lines iso lane message (host_reply host.old.keys host.old.accounts messages message))
         × HostStands host.new (messages ++ message ∷ [])) }
-    ensures losses { losses_of shelf.new ≡ losses_of shelf.old }
-    ensures keys { host.new.keys ≡ host.old.keys }
-    ensures accounts { host.new.accounts ≡ host.old.accounts }
-    ensures err { OnErr result ((shelf.new ≡ shelf.old) × (host.new ≡ host.old) × (lines.new.items ≡ [])) }
+    ensures losses { store_losses lane_store.new ≡ store_losses lane_store.old }
+    ensures issuer { KeepsIssuer host.old host.new }
+    ensures err { OnErr result ((lane_store.new ≡ lane_store.old) × (host.new ≡ host.old) × (lines.new.items ≡ [])) }
 {
     let mut message = Message::new();
-    copy_first(shelf, &mut message);
+    copy_first(lane_store, &mut message);
+    lines.clear();
     send(iso, lane, message.as_slice(), host, lines)?;
     if drops {
-        let Ok(()) = shelf.drop_first() else {
+        let Ok(()) = lane_store.drop_first() else {
             unreachable!();
         };
     }

@@ -1,14 +1,13 @@
 //! A whole run, an event at a time.
-ghost use Rattle.std.specs.Prelude.{◌≡◌, ◌≤◌, ◌<◌, ◌+◌, ◌++◌, ◌∷◌, [], ℕ, List, Bool, true, false, length, map, drop, slice_get, option_map, Option, Some, None, IfOk, IfErr, OnOk, OnErr};
+ghost use Rattle.std.specs.Prelude.{◌≡◌, ◌≤◌, ◌<◌, ◌+◌, [], true, false, length, map, slice_get, option_map, Option, Some, None, IfOk, IfErr, OnOk, OnErr};
 ghost use Rattle.std.specs.List.{All};
-ghost use Rattle.std.specs.Vec.{vec_len, vec_capacity};
+ghost use Rattle.std.specs.Vec.{vec_capacity};
 ghost use Rattle.emv_ports.specs.Memory.{IsBlank};
 ghost use Rattle.issuer_host.specs.History.{balance_after};
-ghost use Rattle.report_text.specs.declared.line.Line.{Line as ReportLine};
 ghost use Rattle.scenario.specs.Plan.{IsScenario};
 ghost use Rattle.txn_replay.specs.Reading.{data_at, ending_at};
 ghost use Rattle.txn_replay.specs.Run.{all_over, ended_count};
-ghost use Rattle.txn_replay.specs.Seen.{WorldSeen, WorldStands, IsUnmoved, Goes, BankStands, IsSettling, IsNext, is_done, turns_left};
+ghost use Rattle.txn_replay.specs.Seen.{WorldSeen, WorldStands, IsUnmoved, EventHasLed, BankStands, IsSettling, IsNext, is_done, turns_left};
 ghost use Rattle.txn_replay.specs.Sound.{IsIdle};
 ghost use Rattle.txn_replay.specs.Steps.{Settlement, Check, settlements, checks};
 ghost use Rattle.txn_replay.specs.Stored.{IsSettledTo};
@@ -20,10 +19,10 @@ use crate::bank::{give_pages, give_stores, take_pages, take_stores};
 use crate::exchange::{Common, exchange, is_held};
 use crate::lane::{Lane, all_ended, are_done, data_in, new_lanes};
 use crate::lines::Lines;
-use crate::payment::{payment_at, speaks_iso};
+use crate::purchases::{payment_at, speaks_iso};
+use crate::run_card::RunCard;
 use crate::settlement::{Settling, drain, open_to_settle, send, settlement};
-use crate::slot::Slot;
-use capture_store::Shelf;
+use capture_store::LaneStore;
 use emv_dict::{Digits, Ending};
 use emv_ports::Pages;
 use issuer_host::{Host, HostKeys};
@@ -43,10 +42,10 @@ pub struct NoWorld<P: Pages> {
 #[derive(Drop)]
 pub struct World<'s, P: Pages> {
     scenario: &'s Scenario,
-    slots: Vec<Slot<'s, P>>,
+    run_cards: Vec<RunCard<'s, P>>,
     lanes: Vec<Lane<'s>>,
     /// The store of each lane that keeps its captures durably.
-    shelves: Vec<Shelf<P>>,
+    lane_stores: Vec<LaneStore<P>>,
     common: Common<'s>,
     /// The pages that no card and no store has.
     spare: Vec<P>,
@@ -55,25 +54,25 @@ pub struct World<'s, P: Pages> {
 impl<'s, P: Pages> Model for World<'s, P> {
     ghost use Rattle.std.specs.Prelude.{map, ◌≤◌};
     ghost use Rattle.std.specs.Vec.{vec_capacity};
-    ghost use Rattle.txn_replay.specs.Seen.{WorldSeen, IsWhole};
+    ghost use Rattle.txn_replay.specs.Seen.{WorldSeen, IsWorldWhole};
 
     ghost Value = { WorldSeen };
 
     ghost view = { λ w. record {
       scenario = w.scenario.now;
-      slots = w.slots.items;
+      run_cards = w.run_cards.items;
       lanes = w.lanes.items;
-      shelves = w.shelves.items;
+      lane_stores = w.lane_stores.items;
       host = w.common.host;
       tally = w.common.tally;
       spare = map P.memory w.spare.items;
     } };
 
-    ghost invariant = { λ w. IsWhole (record {
+    ghost invariant = { λ w. IsWorldWhole (record {
       scenario = w.scenario.now;
-      slots = w.slots.items;
+      run_cards = w.run_cards.items;
       lanes = w.lanes.items;
-      shelves = w.shelves.items;
+      lane_stores = w.lane_stores.items;
       host = w.common.host;
       tally = w.common.tally;
       spare = map P.memory w.spare.items;
@@ -103,21 +102,21 @@ impl<'s, P: Pages> World<'s, P> {
         let Ok(lanes) = new_lanes(alloc, scenario.lanes.len()) else {
             return Err(NoWorld { bank });
         };
-        let Ok(mut shelves) = Vec::with_capacity(alloc, scenario.lanes.len()) else {
+        let Ok(mut lane_stores) = Vec::with_capacity(alloc, scenario.lanes.len()) else {
             return Err(NoWorld { bank });
         };
         let cards = scenario.cards.as_slice();
-        let Ok(mut slots) = Vec::with_capacity(alloc, cards.len()) else {
+        let Ok(mut run_cards) = Vec::with_capacity(alloc, cards.len()) else {
             return Err(NoWorld { bank });
         };
         let mut spare = bank;
-        take_stores(scenario.lanes.as_slice(), &mut spare, &mut shelves);
-        take_pages(cards, &mut spare, &mut slots);
+        take_stores(scenario.lanes.as_slice(), &mut spare, &mut lane_stores);
+        take_pages(cards, &mut spare, &mut run_cards);
         Ok(World {
             scenario,
-            slots,
+            run_cards,
             lanes,
-            shelves,
+            lane_stores,
             common: Common {
                 host,
                 tally: Tally::new(),
@@ -129,34 +128,35 @@ impl<'s, P: Pages> World<'s, P> {
     /// One exchange of the lane of this index. A lane without a running purchase powers up the card of its
     /// next one; a purchase whose dialogue is over ends in the same exchange. A lane that keeps its captures
     /// durably first opens its store; where that is full, this is all, the first message is sent and dropped in
-    /// the next exchange, and the card is powered up in the one behind it. `false`, and nothing happens, where no
-    /// purchase is left or another lane's has the card. After `AllocError` nothing has changed.
+    /// the next exchange, and the card is powered up in the one behind it. `false`, and nothing happens, exactly where
+    /// no purchase is left or another lane's has the card. The lines are those of the exchange, in place of what they
+    /// held. After `AllocError` there are none, and nothing else has changed.
     pub fn turn(&mut self, lane: usize, lines: &mut Lines) -> Result<bool, AllocError>
         requires lane { lane < length self.old.scenario.lanes }
-        requires empty { lines.old.items ≡ [] }
-        ensures ok { OnOk result ((w : SpecWorld) → WorldStands self.old w → Goes self.new w (event.Turn lane) lines.new.items) }
+        ensures ok { OnOk result ((w : SpecWorld) → WorldStands self.old w → EventHasLed self.new w (event.Turn lane) lines.new.items) }
         ensures nearer { IfOk result (λ went. went ≡ true → turns_left self.new < turns_left self.old) }
         ensures idle { IfOk result (λ went. went ≡ false → (w : SpecWorld) → WorldStands self.old w → IsIdle self.old.scenario w lane) }
+        ensures busy { IfOk result (λ went. went ≡ true → (w : SpecWorld) → WorldStands self.old w → IsIdle self.old.scenario w lane → ⊥) }
         ensures still { IfOk result (λ went. went ≡ false → (self.new ≡ self.old) × (lines.new.items ≡ [])) }
         ensures err { OnErr result ((w : SpecWorld) → WorldStands self.old w → WorldStands self.new w) }
-        ensures unmoved { OnErr result (IsUnmoved self.old self.new) }
-        ensures none { OnErr result (lines.new.items ≡ []) }
+        ensures unmoved { OnErr result (IsUnmoved self.old self.new × (lines.new.items ≡ [])) }
         ensures scenario { self.new.scenario ≡ self.old.scenario }
     {
+        lines.clear();
         let scenario = self.scenario;
         let ended = self.lanes[lane].ended;
         let Some(at) = payment_at(scenario, lane, ended) else {
             return Ok(false);
         };
         let card = at.planned.card;
-        if is_held(&self.lanes[lane].running, &self.slots[card]) {
+        if is_held(&self.lanes[lane].running, &self.run_cards[card]) {
             return Ok(false);
         }
         exchange(
             &at,
             &mut self.lanes[lane],
-            &mut self.shelves[lane],
-            &mut self.slots[card],
+            &mut self.lane_stores[lane],
+            &mut self.run_cards[card],
             &mut self.common,
             lines,
         )?;
@@ -166,31 +166,29 @@ impl<'s, P: Pages> World<'s, P> {
     /// The step of the settlement of this number, from 0: each lane's captures by purchase, each sent as often as
     /// the scenario says; of a lane that keeps its captures durably first the opening of its store, which makes no
     /// line, and then each message that it found, dropped behind its last copy. `false` where there is none; then,
-    /// and after `AllocError`, nothing has happened.
+    /// and after `AllocError`, nothing has happened. The lines are those of the step, in place of what they held.
     pub fn settle(&mut self, number: u32, lines: &mut Lines) -> Result<bool, AllocError>
         requires done { is_done self.old ≡ true }
         requires next { IsSettling self.old number }
-        requires empty { lines.old.items ≡ [] }
         ensures ok { OnOk result ((w : SpecWorld) → WorldStands self.old w → IsSettledTo self.old.scenario w number
-            → Goes self.new w (event.Settle number) lines.new.items) }
-        ensures there { IfOk result (λ went. went ≡ true → (w : SpecWorld) → WorldStands self.old w
-            → (at : Settlement) × (slice_get (settlements self.old.scenario w) number ≡ Some at)) }
+            → EventHasLed self.new w (event.Settle number) lines.new.items) }
+        ensures there { IfOk result (λ went. went ≡ true → (number < 30352) × ((w : SpecWorld) → WorldStands self.old w
+            → (at : Settlement) × (slice_get (settlements self.old.scenario w) number ≡ Some at))) }
         ensures past { IfOk result (λ went. went ≡ false → (w : SpecWorld) → WorldStands self.old w
             → slice_get (settlements self.old.scenario w) number ≡ None) }
-        ensures few { IfOk result (λ went. went ≡ true → number < 30352) }
         ensures still { IfOk result (λ went. went ≡ false → (self.new ≡ self.old) × (lines.new.items ≡ [])) }
-        ensures err { OnErr result (self.new ≡ self.old) }
-        ensures none { OnErr result (lines.new.items ≡ []) }
+        ensures err { OnErr result ((self.new ≡ self.old) × (lines.new.items ≡ [])) }
         ensures scenario { self.new.scenario ≡ self.old.scenario }
         ensures done { is_done self.new ≡ is_done self.old }
     {
+        lines.clear();
         let scenario = self.scenario;
         let Some(step) = settlement(scenario, self.lanes.as_slice(), number) else {
             return Ok(false);
         };
         match step {
             Settling::Opens(lane) => {
-                open_to_settle(&mut self.lanes[lane], &mut self.shelves[lane]);
+                open_to_settle(&mut self.lanes[lane], &mut self.lane_stores[lane]);
                 Ok(true)
             }
             Settling::Sends(lane, message) => {
@@ -200,8 +198,15 @@ impl<'s, P: Pages> World<'s, P> {
             }
             Settling::Drains { lane, drops } => {
                 let iso = speaks_iso(scenario, lane);
-                let shelf = &mut self.shelves[lane];
-                drain(iso, lane as u8, drops, shelf, &mut self.common.host, lines)?;
+                let lane_store = &mut self.lane_stores[lane];
+                drain(
+                    iso,
+                    lane as u8,
+                    drops,
+                    lane_store,
+                    &mut self.common.host,
+                    lines,
+                )?;
                 Ok(true)
             }
         }
@@ -209,25 +214,24 @@ impl<'s, P: Pages> World<'s, P> {
 
     /// The step of the audit of this number, from 0: each card with applications is powered up without a tear,
     /// and each of these is selected and asked for both counters. `false` where there is none, and nothing
-    /// happens.
+    /// happens. The lines are those of the step, in place of what they held.
     pub fn audit(&mut self, number: u32, lines: &mut Lines) -> bool
         requires done { is_done self.old ≡ true }
         requires next { IsNext self.old number }
-        requires empty { lines.old.items ≡ [] }
-        ensures goes { (w : SpecWorld) → WorldStands self.old w → Goes self.new w (event.Audit number) lines.new.items }
-        ensures there { result ≡ true → (check : Check) × (slice_get (checks self.old.scenario) number ≡ Some check) }
+        ensures goes { (w : SpecWorld) → WorldStands self.old w → EventHasLed self.new w (event.Audit number) lines.new.items }
+        ensures there { result ≡ true → (number < 832) × ((check : Check) × (slice_get (checks self.old.scenario) number ≡ Some check)) }
         ensures past { result ≡ false → slice_get (checks self.old.scenario) number ≡ None }
-        ensures few { result ≡ true → number < 832 }
         ensures still { result ≡ false → (self.new ≡ self.old) × (lines.new.items ≡ []) }
         ensures next { result ≡ true → IsNext self.new (number + 1) }
         ensures done { is_done self.new ≡ true }
         ensures scenario { self.new.scenario ≡ self.old.scenario }
     {
+        lines.clear();
         let scenario = self.scenario;
         let Some(step) = audit_step(scenario.cards.as_slice(), number) else {
             return false;
         };
-        carry_out(step, &mut self.slots[step.index], lines);
+        carry_out(step, &mut self.run_cards[step.index], lines);
         true
     }
 
@@ -284,14 +288,17 @@ impl<'s, P: Pages> World<'s, P> {
     {
         let World {
             scenario: _,
-            slots,
+            run_cards,
             lanes: _,
-            shelves,
+            lane_stores,
             common,
             spare,
         } = self;
         let Common { host: _, tally } = common;
-        (give_stores(shelves, give_pages(slots, spare)), tally)
+        (
+            give_stores(lane_stores, give_pages(run_cards, spare)),
+            tally,
+        )
     }
 }
 

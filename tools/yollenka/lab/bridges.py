@@ -97,33 +97,35 @@ def control(card, connection, number):
     return True
 
 
-def answer(card, connection):
-    """Answers the reader until it goes, or the card is pulled out. Tells whether it was."""
-    while (text := frame(connection)) is not None:
-        if len(text) == 1:
-            if not control(card, connection, text[0]):
-                return True
-        elif text:
-            told = card.ask(text.hex())
-            if told == "< torn":
-                return True
-            # A command to a card that is off, or one that is too long, is an error of the reader's side.
-            send(connection, bytes.fromhex(told[2:]) if told.startswith("< ") else b"\x6f\x00")
-    return False
+def answer(card, connection, text):
+    """Answers a frame of the reader; tells whether the card is still in it."""
+    if len(text) == 1:
+        return control(card, connection, text[0])
+    told = card.ask(text.hex()) if text else ""
+    if text and told != "< torn":
+        # A command to a card that is off, or one that is too long, is an error of the reader's side.
+        send(connection, bytes.fromhex(told[2:].strip("-")) if told.startswith("< ") else b"\x6f\x00")
+    return told != "< torn"
+
+
+def put_in(port):
+    """Puts a card into the virtual reader at this port, as a connection."""
+    try:
+        return connected(port)
+    except OSError as error:
+        raise Fault(f"no virtual reader listens at port {port} of this machine ({error.strerror}): it needs vsmartcard-vpcd, "
+                    "and pcscd at work") from None
 
 
 def in_a_reader(card, port):
     """Puts the card into the virtual reader at this port, again each time that it was pulled out, until the reader goes."""
     while True:
-        try:
-            connection = connected(port)
-        except OSError as error:
-            raise Fault(f"no virtual reader listens at port {port} of this machine ({error.strerror}): it needs vsmartcard-vpcd, "
-                        "and pcscd at work") from None
-        with connection:
+        with put_in(port) as connection:
             say("the card is in the reader")
-            if not answer(card, connection):
-                return
+            while (text := frame(connection)) is not None and answer(card, connection, text):
+                pass
+        if text is None:
+            return
         time.sleep(OUT)
 
 

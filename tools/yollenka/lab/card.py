@@ -12,7 +12,7 @@ from yollenka.lab.emv import command_name
 from yollenka.lab.images import Image
 from yollenka.lab.judge import text_of
 from yollenka.lab.sessions import CANNED, TORN, sessions_of
-from yollenka.lab.told import line_texts
+from yollenka.lab.told import finding_texts
 from yollenka.lab.verdict import BEHIND, NOTE, WRONG, Line
 from yollenka.lab.worlds import in_words, left, number_texts
 
@@ -22,7 +22,6 @@ one or more sessions, each from a power-up to the next; a card remembers, so the
 
 IMAGE.toml is a scenario, of which `issuer` and `card` are read, or a card in words (docs/use/cases.md). Where the card was
 pulled out, each state that it may be left in is tried, and later answers tell which one it was."""
-SHOWN = 2
 
 
 @dataclass
@@ -151,21 +150,10 @@ def compared(image, sessions, name):
         bench.close()
 
 
-def texts(held, is_all):
-    """The lines that tell what came of a session, without the mark of a comment."""
-    behind = 0
-    for line in held.lines:
-        behind += line.kind == BEHIND
-        if line.kind != BEHIND or behind <= SHOWN or is_all:
-            yield from line_texts(line)
-    if behind > SHOWN and not is_all:
-        yield f"{behind - SHOWN} more behind it; --all shows them"
-
-
 def told(number, held, is_all):
     """What came of a session as TAP has it."""
     mark, skip = "not ok" if held.is_wrong() else "ok", "" if held.is_compared else " # SKIP not compared"
-    return "\n".join([f"{mark} {number} - {held.title}{skip}", *(f"# {text}" for text in texts(held, is_all))])
+    return "\n".join([f"{mark} {number} - {held.title}{skip}", *(f"# {text}" for text in finding_texts(held.lines, is_all))])
 
 
 def at_a_reader(image, options, open_=Pcsc):

@@ -6,12 +6,12 @@ from pathlib import Path
 from typing import NamedTuple
 
 from yollenka.faults import Fault
-from yollenka.lab import cards
+from yollenka.lab import cards, rules
 from yollenka.lab.live import check_key
 from yollenka.lab.spelling import bits, hexadecimal
 from yollenka.model.document import Refused, scenario_of
 from yollenka.refusals import hint, near
-from yollenka.scenarios import NoDocument, document, read_document
+from yollenka.scenarios import document, read_document
 from yollenka.schema import read_schema, tables
 from yollenka.words import CAPS, TVR
 
@@ -28,7 +28,7 @@ PURCHASE = {
     "amount": 2500, "currency": "840", "date": "240615", "time": "120000", "number": 16909060, "word": 49, "pins": ["1234"],
 }
 TABLES = ("issuer", "account", "card", "lane", "purchase")
-KEYS = ("name", "tries", "each", "set", "unset", "patch", "answer", "reply", "canned")
+KEYS = ("name", "rule", "tries", "each", "set", "unset", "patch", "answer", "reply", "canned")
 CODES = ("denial", "online", "default")
 WORDS = re.compile(r"\{([A-Za-z0-9_-]+)\}")
 
@@ -36,13 +36,14 @@ WORDS = re.compile(r"\{([A-Za-z0-9_-]+)\}")
 class Case(NamedTuple):
     """A purchase to be tried: its scenario, of one card and one lane with one purchase; `answers` has the answers in place of the
     card's (None: it is gone), each with the name of its command or its number from 1; `reply` is what comes in place of the
-    issuer's reply, or None; `tries` says in words which rule is tried."""
+    issuer's reply, or None; `rules` are the names of the rules that are tried, and `tries` says them in words."""
 
     name: str
     scenario: dict
     answers: dict
     reply: bytes | None
     tries: str
+    rules: tuple = ()
 
 
 def base(file):
@@ -228,7 +229,18 @@ def one_case(tables_, row, given):
     check_keys(made)
     refused(made)
     reply = bytes.fromhex(hexadecimal(row["reply"], "reply", range(2049))) if "reply" in row else None
-    return made, answers_in(row.get("answer", {})), reply, row.get("tries", "")
+    return made, answers_in(row.get("answer", {})), reply, row.get("tries", ""), rules_in(row.get("rule", []))
+
+
+def rules_in(value):
+    """The rules that a case tries, by their names: one, or a list of them."""
+    names = [value] if isinstance(value, str) else value
+    if not isinstance(names, list) or not all(isinstance(name, str) for name in names):
+        raise Fault(f"rule is {value!r}, and should be the name of a rule, or an array of such names")
+    for name in names:
+        if name not in rules.table():
+            raise Fault(f"rule: docs/proof/profile.md has no rule '{name}'{near(name, rules.table())}")
+    return tuple(names)
 
 
 def form_of(row):
@@ -300,10 +312,7 @@ def cases_in(path):
         if not found:
             raise Fault(f"{path}: no case stands in this folder")
         return found
-    try:
-        file = read_document(place)
-    except NoDocument as fault:
-        raise Fault(str(fault)) from None
+    file = read_document(place)
     try:
         if isinstance(file.get("case"), list):
             return cases_of_table(file)

@@ -7,10 +7,10 @@ from yollenka.faults import Fault
 from yollenka.lab.cases import refused
 from yollenka.lab.spelling import METHODS, rule_words
 from yollenka.model.objects import Fault as CodingFault
-from yollenka.model.objects import account_number, entries, tag_text, total
+from yollenka.model.objects import account_number, entries, total
 from yollenka.model.selection import Terminated, check, gather, read
 from yollenka.lines import program
-from yollenka.scenarios import NoDocument, document, read_document
+from yollenka.scenarios import document, read_document
 from yollenka.words import CAUSE, TAGS, TVR
 
 TEXT = """Says what is wrong with a scenario's cards before anything runs: records that can't be read, with the place, numbers and
@@ -238,11 +238,11 @@ def well_formed_faults(scenario):
 
 def run(options):
     """Prints what is wrong; gives the status."""
+    scenario = read_document(options.scenario)
     try:
-        scenario = read_document(options.scenario)
         refused(scenario)
-    except (NoDocument, Fault) as fault:
-        raise Fault(str(fault) if isinstance(fault, NoDocument) else f"{options.scenario}: {fault}") from None
+    except Fault as fault:
+        raise Fault(f"{options.scenario}: {fault}") from None
     lines = [*card_faults(scenario), *well_formed_faults(scenario)]
     print(*lines, sep="\n", end="\n" if lines else "")
     faults = sum(": note: " not in line for line in lines)

@@ -4,6 +4,7 @@ import textwrap
 from collections import Counter
 
 from yollenka.lab.emv import NAMES
+from yollenka.lab.rules import table
 from yollenka.lab.spelling import CONDITIONS, METHODS
 from yollenka.words import ARC, RESULT, TVR
 
@@ -27,7 +28,7 @@ REFUSED = ["first:TC-reserved", "first:ARQC-TC", "first:AAC-TC", "first:AAC-ARQC
 RESULTS = {
     "fail": [1], "plaintext pin": [1, 2], "online pin": [0, 1], "plaintext pin and signature": [0, 1], "signature": [0], "no cvm": [2],
 }
-METHOD_ROW, WIDTH = "CVM by condition and result", 120
+RULES_ROW, METHOD_ROW, WIDTH = "rules that a terminal can be tried by", "CVM by condition and result", 120
 MARKS = {0: "?", 1: "-", 2: "+"}
 END = re.compile(r"end (.*?) tvr=(\w+) tsi=\w+ cvm=(\w+) arc=(.*?) atc=\S+ ac=\S+ scripts=(\S+)")
 
@@ -55,12 +56,13 @@ class Coverage:
 
     def __init__(self):
         self.cases = 0
-        self.bits, self.methods, self.causes, self.kinds, self.codes, self.statuses, self.scripts, self.endings = (
-            Counter() for _ in range(8))
+        self.bits, self.methods, self.causes, self.kinds, self.codes, self.statuses, self.scripts, self.endings, self.rules = (
+            Counter() for _ in range(9))
 
     def add(self, case, verdict):
         """Adds what the reference did in a case."""
         self.cases += 1
+        self.rules.update(case.rules)
         self.add_dialogue(verdict.fed)
         found = END.match(f"end {verdict.end}") if verdict.end else None
         if found:
@@ -94,6 +96,7 @@ class Coverage:
 
     def rows(self):
         """Each kind of thing with the names that can be and the counts of those that were."""
+        yield RULES_ROW, [rule.name for rule in table().values() if rule.is_of_a_terminal()], self.rules
         yield "TVR bits", [f"{place // 10}.{place % 10}" for place in BITS], {
             f"{place // 10}.{place % 10}": count for place, count in self.bits.items()}
         cells = {(METHODS[method], condition, result): f"{method} {name} {RESULT[result]}" for method, results in RESULTS.items()

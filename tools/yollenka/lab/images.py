@@ -8,7 +8,7 @@ from yollenka.lab.emv import information, primitives
 from yollenka.model.objects import command, entries, spelled, total
 from yollenka.lab.worlds import Proved
 from yollenka.refusals import near
-from yollenka.scenarios import NoDocument, document, read_document
+from yollenka.scenarios import document, read_document
 
 # What GET DATA tells of a state: the object, the key that it has in an image.
 TOLD = {0x9F36: "counter", 0x9F13: "last_online", 0x9F17: "tries"}
@@ -41,10 +41,7 @@ class Image:
 
     def __init__(self, path):
         self.path, self.taken, self.tries = path, [], {}
-        try:
-            self.table = read_document(path)
-        except NoDocument as fault:
-            raise Fault(str(fault)) from None
+        self.table = read_document(path)
         if isinstance(self.table.get("card"), dict):
             self.table = from_words(path, self.table)
         cards = self.table.get("card")

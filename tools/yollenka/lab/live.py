@@ -6,13 +6,14 @@ from itertools import count
 from yollenka.faults import Fault
 from yollenka.lab.emv import NAMES
 from yollenka.model.document import scenario_of
-from yollenka.model.issuer import Issuer, Message
+from yollenka.model.issuer import Issuer
+from yollenka.model.messages import Message, Unreadable
 from yollenka.model.objects import Fault as ListFault
 from yollenka.model.objects import account_number, command_in, entries, entry_in
 from yollenka.model.selection import DIRECTORY, Terminated, gather, profile_and_locator
 from yollenka.model.terminal import Terminal, cryptogram_in
 from yollenka.model.world import Canned, World
-from yollenka.lines import begin, card_document
+from yollenka.lines import begin, card_document, end
 from yollenka.refusals import near
 from yollenka.scenarios import document
 
@@ -117,13 +118,13 @@ class ProgramCard:
 
     def end(self):
         """Ends the program."""
-        self.process.stdin.close()
-        self.process.stdout.close()
-        self.process.wait()
+        end(self.process)
 
 
 class CannedCard(Canned):
-    """A card of canned answers."""
+    """A card of canned answers, which no plan pulls out."""
+
+    is_on = True
 
     def __init__(self, scenario):
         super().__init__([bytes.fromhex(one) for one in scenario["card"][0]["canned"]])
@@ -147,12 +148,12 @@ class Host:
             sent = bytes.fromhex(text)
             Message(sent)
             return sent
-        except (ValueError, KeyError, IndexError):
+        except (ValueError, Unreadable):
             return request_of(self.terminal, exchanges)
 
     def reply(self, message):
         """The reply to a message, or None where none comes back."""
-        replies = [self.issuer.reply(message) for _ in range({"request_lost": 0, "twice": 2}.get(self.link, 1))]
+        replies = [self.issuer.answer(message) for _ in range({"request_lost": 0, "twice": 2}.get(self.link, 1))]
         return (self.own or replies[0]) if replies and self.link != "reply_lost" else None
 
 

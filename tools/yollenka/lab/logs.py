@@ -32,6 +32,12 @@ class Exchange:
     line: int
     is_told: bool = True
 
+    def entries(self):
+        """Its two lines as a trace has them; where the log doesn't tell what came back, the first one alone."""
+        head, nothing = ("host ", "none") if self.side == HOST else ("", "gone")
+        reply = nothing if self.got is None else self.got.hex() or "-"
+        return [f"{head}> {self.sent.hex() or '-'}", f"{head}< {reply}"][: 1 + self.is_told]
+
 
 @dataclass
 class Purchase:

@@ -3,7 +3,7 @@ import subprocess
 
 from yollenka.faults import Fault
 from yollenka.lab.logs import CARD, HOST
-from yollenka.lines import begin, program
+from yollenka.lines import begin, end, program
 
 
 class Reference:
@@ -38,10 +38,7 @@ class Reference:
 
     def close(self):
         """Ends the terminal's program."""
-        self.process.kill()
-        self.process.stdin.close()
-        self.process.stdout.close()
-        self.process.wait()
+        end(self.process)
 
 
 def rows_of(lane):

@@ -95,10 +95,7 @@ def of_report(text, words=()):
 def entries_of(purchase):
     """The entries of a purchase in a log, a command or message with the number of its line."""
     for one in purchase.exchanges:
-        head, nothing = ("host ", "none") if one.side == HOST else ("", "gone")
-        yield one.line, f"{head}> {one.sent.hex() or '-'}"
-        if one.is_told:
-            yield None, f"{head}< {nothing if one.got is None else one.got.hex() or '-'}"
+        yield from zip((one.line, None), one.entries())
     if purchase.end:
         yield None, f"end {purchase.end}"
 

@@ -186,15 +186,15 @@ def lacks(*keys):
 
 
 EXCUSES = [
-    Excuse("which types look at floor limit, random selection and velocity is this project's choice", "", OWN,
+    Excuse("which types look at floor limit, random selection and velocity is this project's choice", "RISK-11", OWN,
            kind_is(*ONLINE_ONLY), COUNTED, (), COUNTERS),
-    Excuse("which types select at random is this project's choice", "", OWN, kind_is(*OFFLINE_ONLY), RANDOM),
-    Excuse("that an amount equal to X or Y is neither under nor over it is this project's choice", "", OWN, meets_limit, METHODS,
+    Excuse("which types select at random is this project's choice", "RISK-11", OWN, kind_is(*OFFLINE_ONLY), RANDOM),
+    Excuse("that an amount equal to X or Y is neither under nor over it is this project's choice", "CVM-4", OWN, meets_limit, METHODS,
            (CVM_RESULTS,), (VERIFY,)),
-    Excuse("that another status of VERIFY makes the method unsuccessful is this project's choice", "", OWN, has_other_status,
+    Excuse("that another status of VERIFY makes the method unsuccessful is this project's choice", "CVM-10", OWN, has_other_status,
            METHODS, (CVM_RESULTS,), (VERIFY,)),
-    Excuse("that years from 50 on are of the last century is this project's choice", "", OWN, has_old_date, DATES),
-    Excuse("the order of applications of one priority is this project's choice", "", OWN, ties, 0, (), ("00a40400",)),
+    Excuse("that years from 50 on are of the last century is this project's choice", "BASE-2", OWN, has_old_date, DATES),
+    Excuse("the order of applications of one priority is this project's choice", "SEL-18", OWN, ties, 0, (), ("00a40400",)),
     Excuse("offline data authentication, which the reference doesn't perform", "Book 3, 10.3", OPEN, authenticates, AUTHENTICATION),
     Excuse("a PIN enciphered for the card, which the reference doesn't support", "Book 3, 10.5", OPEN, enciphers, METHODS,
            (CVM_RESULTS,), (VERIFY,)),

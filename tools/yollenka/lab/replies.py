@@ -58,9 +58,9 @@ def going_on(ending, card, lane):
     if ending.startswith(("terminated read value", "terminated read dol")):
         return OPEN, ", and what a terminal does with a wrong value is its own", "Book 3, 7"
     if ending == "terminated initiate afl 0" and not card.locator:
-        return OWN, ": that the locator must not be empty is this project's choice", ""
+        return OWN, ": that the locator must not be empty is this project's choice", "INIT-7"
     if ending == "terminated read too-much":
-        return OWN, ": how much a card may give is this project's choice", ""
+        return OWN, ": how much a card may give is this project's choice", "READ-5"
     if ending == "terminated select no-candidate" and lane.get("pse"):
-        return OWN, ": that the list doesn't come back behind the directory is this project's choice", ""
+        return OWN, ": that the list doesn't come back behind the directory is this project's choice", "SEL-7"
     return WRONG, "", ""

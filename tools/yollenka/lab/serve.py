@@ -8,20 +8,12 @@ from yollenka.lab.at_reader import Pcsc, recorder
 from yollenka.lab.bridges import HERE, Card, at_a_card, card_of, host_reply, in_a_reader, on_a_socket
 from yollenka.lines import Lines, begin, terminal_document
 from yollenka.readers import PORT
-from yollenka.scenarios import NoDocument, read_document
+from yollenka.scenarios import read_document
 
 TEXT = """\
 The proved card of a scenario in the virtual reader of this machine, or on a socket; or its proved terminal at a card in a
 reader. docs/use/reader.md has their lines, and what one has to know of readers."""
 IDLE = 60.0
-
-
-def scenario_in(path):
-    """A scenario in a file."""
-    try:
-        return read_document(path)
-    except NoDocument as fault:
-        raise Fault(str(fault)) from None
 
 
 def address(text):
@@ -40,7 +32,7 @@ def serve_card(options):
         card = Card(Lines(to, back), record)
         card.in_step()
     else:
-        card = card_of(options.scenario, scenario_in(options.scenario), options.card, record)
+        card = card_of(options.scenario, read_document(options.scenario), options.card, record)
     if options.pull and card.ask(f"pull {options.pull}") == "?":
         raise Fault(f"--pull: this is no place: {options.pull}")
     if options.socket:
@@ -52,7 +44,7 @@ def serve_card(options):
 
 def serve_terminal(options):
     """Holds a purchase's dialogue with the card in a reader; each line of it is printed, as the entries of a trace."""
-    scenario = scenario_in(options.scenario)
+    scenario = read_document(options.scenario)
     try:
         text = terminal_document(scenario, options.lane, options.purchase)
     except (KeyError, IndexError, TypeError):

@@ -1,4 +1,5 @@
-"""`lab terminal`: cases at a terminal of one's own, a program that talks lines; each is judged, and what all cover is told."""
+"""`lab terminal`: cases at a terminal of one's own, a program that talks lines or one at a reader; each is judged, and what all
+cover is told."""
 import os
 import re
 import select
@@ -10,8 +11,9 @@ from concurrent.futures import ThreadPoolExecutor
 from dataclasses import replace
 from pathlib import Path
 
-from yollenka.commandline import a_new_file, positive
+from yollenka.commandline import a_new_file, positive, seconds
 from yollenka.faults import Fault
+from yollenka.lab.by_hand import verdicts
 from yollenka.lab.cases import cases_in
 from yollenka.lab.cover import Coverage
 from yollenka.lab.facts import facts_of_scenario
@@ -20,6 +22,7 @@ from yollenka.lab.logs import CARD, HOST, Exchange, Purchase
 from yollenka.lab.told import Result, junit, status_of, tap_lines
 from yollenka.lab.walk import FAILED, NOTE, PASSED, WRONG, Line, judge
 from yollenka.lines import program, terminal_document
+from yollenka.readers import PORT
 
 TEXT = """Tries cases at a terminal of your own, each judged as `lab judge` judges a log with the whole lane.
 
@@ -27,7 +30,10 @@ COMMAND is started once for each case. On its standard input it gets a line `doc
 purchase as a TOML document (docs/use/reader.md, section 2). It writes a command as `> H`, or as bare hexadecimal, and reads
 `< H` or `< gone`; `host > H` is answered `host < H` or `host < none`; at last it writes `end ..`, as much of it as it has
 (docs/use/report.md, section 3), or just ends. `{case}` in a word of COMMAND becomes the case's name. CASES is a table of cases
-(docs/use/cases.md), a scenario, or a folder of them."""
+(docs/use/cases.md), a scenario, or a folder of them.
+
+With --pcsc the terminal stands at a reader, in place of COMMAND: each case's card is put into the virtual reader of this
+machine, and the operator, who is told what to enter, presses Enter when the terminal has ended (docs/use/reader.md)."""
 LONGEST, MOST_EXCHANGES, SHOWN = 8192, 2000, 5
 COMMAND_LINE = re.compile(r"(?:> ?)?((?:[0-9a-fA-F]{2} ?)+)")
 
@@ -35,8 +41,16 @@ COMMAND_LINE = re.compile(r"(?:> ?)?((?:[0-9a-fA-F]{2} ?)+)")
 def arguments(parser):
     """The command's words."""
     parser.add_argument("cases", metavar="CASES", help="a table of cases, a scenario, or a folder")
-    parser.add_argument("command", metavar="COMMAND", nargs="+", help="behind `--`: your terminal, with its words")
-    parser.add_argument("-j", dest="jobs", type=positive, default=os.cpu_count() or 1, metavar="N", help="so many at a time")
+    command = parser.add_argument("command", metavar="COMMAND", nargs="+", help="behind `--`: your terminal, with its words")
+    command.required = False
+    parser.add_argument("--pcsc", nargs="?", const="", metavar="READER",
+                        help="in place of COMMAND: a terminal at the virtual reader; a reader with READER in its name has to be there")
+    parser.add_argument("--port", type=lambda text: int(text, 0), default=PORT, help="with --pcsc: the virtual reader's port here (35963)")
+    parser.add_argument("--wait", type=seconds, metavar="SECONDS",
+                        help="with --pcsc: a case also ends where the card was off for so long, behind its first command")
+    parser.add_argument("--host-lines", metavar="FILE",
+                        help="with --pcsc: a file to which the terminal's host adds `host > H` and `host < H`, or `host < none`")
+    parser.add_argument("-j", dest="jobs", type=positive, metavar="N", help="so many at a time, without it one for each processor")
     parser.add_argument("--only", default="", metavar="REGEX", help="the cases in whose names this is found")
     parser.add_argument("--seconds", type=float, default=10, help="how long a terminal may take for a line (10)")
     parser.add_argument("--keep", metavar="DIR", help="keeps each dialogue there, as CASE.log")
@@ -104,13 +118,12 @@ class Trial:
         self.talk, self.purchase, self.lines, self.notes = talk, Purchase(card="c1"), [], []
         self.card, self.host, self.scenario = card_of(case), Host(case), case.scenario
 
-    def put(self, side, head, sent, got):
+    def put(self, side, sent, got):
         """Keeps an exchange, and tells the terminal what came back."""
-        nothing = "none" if side == HOST else "gone"
-        reply = f"{head}< {nothing if got is None else got.hex() or '-'}"
-        self.purchase.exchanges.append(Exchange(side, sent, got, len(self.lines) + 1))
-        self.lines += [f"{head}> {sent.hex() or '-'}", reply]
-        self.talk.say(reply.encode() + b"\n")
+        one = Exchange(side, sent, got, len(self.lines) + 1)
+        self.purchase.exchanges.append(one)
+        self.lines += one.entries()
+        self.talk.say(self.lines[-1].encode() + b"\n")
 
     def take(self, line):
         """Does what a line of the terminal asks; whether it goes on."""
@@ -121,10 +134,10 @@ class Trial:
             return False
         if line.startswith("host >"):
             sent = self.host.message(line[6:].strip(), self.purchase.exchanges)
-            self.put(HOST, "host ", sent, self.host.reply(sent))
+            self.put(HOST, sent, self.host.reply(sent))
         elif command:
             sent = bytes.fromhex(command[1])
-            self.put(CARD, "", sent, self.card.answer(sent))
+            self.put(CARD, sent, self.card.answer(sent))
         else:
             raise Fault(f"{line[:80]!r} is no command, no message and no end")
         return len(self.purchase.exchanges) < MOST_EXCHANGES
@@ -151,24 +164,60 @@ class Trial:
         self.notes += [f"the terminal's status is {status}"] if status else []
 
 
+def what_is_tried(case):
+    """The line that says which rules a case tries, if it says so."""
+    told = ": ".join(part for part in (", ".join(case.rules), case.tries) if part)
+    return [f"the case tries {told}"] if told else []
+
+
+def result_of(case, options, verdict, lines, began, notes=()):
+    """The result of a case: its verdict, and where it doesn't pass what it tries; its dialogue is kept where that is wanted."""
+    if options.keep:
+        (Path(options.keep) / f"{case.name}.log").write_text("".join(f"{line}\n" for line in lines))
+    if verdict.status != PASSED:
+        verdict = replace(verdict, lines=[*verdict.lines, *(Line(NOTE, note) for note in (*notes, *what_is_tried(case)))])
+    return Result(case.name, verdict, time.monotonic() - began)
+
+
 def tried(case, options):
-    """The verdict on a case at the terminal, with its name and its time."""
-    begin = time.monotonic()
+    """The result of a case at the terminal's program."""
+    began = time.monotonic()
     words = [word.replace("{case}", case.name) for word in options.command]
     trial = Trial(case, Talk(words, options.seconds))
     try:
         fault = trial.run()
     finally:
         trial.end()
-    if options.keep:
-        (Path(options.keep) / f"{case.name}.log").write_text("".join(f"{line}\n" for line in trial.lines))
     verdict = judge(trial.purchase, facts_of_scenario(case.scenario, 0, 1))
     if fault:
         verdict = replace(verdict, status=FAILED, lines=[Line(WRONG, fault), *verdict.lines])
-    notes = [*trial.notes, *([f"the case tries: {case.tries}"] if case.tries else [])]
-    if verdict.status != PASSED:
-        verdict = replace(verdict, lines=[*verdict.lines, *(Line(NOTE, note) for note in notes)])
-    return Result(case.name, verdict, time.monotonic() - begin)
+    return result_of(case, options, verdict, trial.lines, began, trial.notes)
+
+
+def all_tried(cases, options):
+    """The result of each case: at a reader one case at a time, else so many side by side."""
+    if options.pcsc is not None:
+        began = time.monotonic()
+        for case, (verdict, lines) in zip(cases, verdicts(cases, options)):
+            yield result_of(case, options, verdict, lines, began)
+            began = time.monotonic()
+        return
+    with ThreadPoolExecutor(options.jobs or os.cpu_count()) as pool:
+        yield from pool.map(lambda case: tried(case, options), cases)
+
+
+def check_words(options):
+    """Refuses words that don't go together."""
+    if options.pcsc is None:
+        if not options.command:
+            raise Fault("it needs a terminal: COMMAND behind --, or --pcsc for one at a reader")
+        for word in ("wait", "host_lines"):
+            if getattr(options, word) is not None:
+                raise Fault(f"--{word.replace('_', '-')} goes with --pcsc alone")
+    elif options.command:
+        raise Fault("COMMAND and --pcsc are two terminals; one can be tried")
+    elif options.jobs:
+        raise Fault("-j: at a reader one case is tried at a time")
 
 
 def chosen(options):
@@ -193,18 +242,19 @@ def make_folder(path):
 
 def run(options):
     """Tries the cases; gives the status."""
+    check_words(options)
     cases, results, coverage = chosen(options), [], Coverage()
     for name in ("card_at_reader", "terminal_at_reader"):
         program(name)
     if options.keep:
         make_folder(Path(options.keep))
     print(f"TAP version 13\n1..{len(cases)}")
-    with ThreadPoolExecutor(options.jobs) as pool:
-        for case, result in zip(cases, pool.map(lambda case: tried(case, options), cases)):
-            results.append(result)
-            coverage.add(case, result.verdict)
-            print("\n".join(tap_lines(len(results), result, options.all)), flush=True)
+    for case, result in zip(cases, all_tried(cases, options)):
+        results.append(result)
+        coverage.add(case, result.verdict)
+        print("\n".join(tap_lines(len(results), result, options.all)), flush=True)
     print("\n".join(f"# {line}" for line in coverage.lines(options.coverage)))
     if options.junit:
-        options.junit.write_text("\n".join(junit(results, f"lab terminal {shlex.join(options.command)}")) + "\n")
+        at = shlex.join(options.command or ["--pcsc"])
+        options.junit.write_text("\n".join(junit(results, f"lab terminal {at}")) + "\n")
     return status_of(results)

@@ -4,6 +4,7 @@ from dataclasses import dataclass
 from html import escape
 
 from yollenka.lab import FAILED as STATUS_FAILED, INCONCLUSIVE as STATUS_INCONCLUSIVE, PASSED as STATUS_PASSED
+from yollenka.lab.rules import cited
 from yollenka.lab.verdict import ASSUMED, BEHIND, FAILED, INCONCLUSIVE, LACKING, NOTE, OPEN, OWN, PASSED, TAKEN, WRONG
 
 # So many consequences of a fault are shown, unless all are asked for.
@@ -33,7 +34,7 @@ def place_of(line):
 
 def line_texts(line):
     """The lines that tell a finding, without the mark of a comment."""
-    section = f" ({line.section})" if line.section and line.kind != BEHIND else ""
+    section = f" ({cited(line.section)})" if line.section and line.kind != BEHIND else ""
     word = WORDS.get(line.kind, line.kind)
     yield f"{word}{place_of(line)}: {line.text}{section}" if line.kind != NOTE else f"{line.text}{section}"
     if line.sent is not None and line.wanted is not None:
@@ -43,17 +44,20 @@ def line_texts(line):
     yield from (f"  because {reason}" for reason in line.because)
 
 
-def verdict_texts(verdict, is_all=False):
-    """The lines that tell a verdict, without the mark of a comment: its findings, and how far it went."""
-    shown, behind = [], 0
-    for line in verdict.lines:
+def finding_texts(lines, is_all=False):
+    """The lines that tell findings, without the mark of a comment; of those behind a fault the first ones, unless all are wanted."""
+    behind = 0
+    for line in lines:
         behind += line.kind == BEHIND
         if line.kind != BEHIND or behind <= SHOWN or is_all:
-            shown.append(line)
-    for line in shown:
-        yield from line_texts(line)
+            yield from line_texts(line)
     if behind > SHOWN and not is_all:
         yield f"{behind - SHOWN} more behind it; --all shows them"
+
+
+def verdict_texts(verdict, is_all=False):
+    """The lines that tell a verdict, without the mark of a comment: its findings, and how far it went."""
+    yield from finding_texts(verdict.lines, is_all)
     if verdict.status != PASSED:
         ending = f"the reference ends {verdict.end.split(' tvr=')[0]}" if verdict.end else "the reference isn't at its end"
         yield f"{verdict.fitting} of {verdict.exchanges} exchanges fit; {ending}"

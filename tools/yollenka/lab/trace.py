@@ -1,9 +1,7 @@
 """`lab trace`: the trace of one purchase, as `emvrun check` reads it."""
-import json
-
 from yollenka.commandline import a_file, counted, positive
 from yollenka.faults import Fault
-from yollenka.scenarios import read_document
+from yollenka.scenarios import pair, read_document, toml
 
 TEXT = """\
 The trace of one purchase, as `emvrun check` reads it.
@@ -50,17 +48,9 @@ def entries(lines, lane, purchase):
     raise Fault(f"the report has no purchase {purchase} of lane {lane}")
 
 
-def value(item):
-    """A value as TOML writes it."""
-    if isinstance(item, bool):
-        return "true" if item else "false"
-    if isinstance(item, list):
-        return "[" + ", ".join(value(part) for part in item) + "]"
-    return json.dumps(item, ensure_ascii=False).replace("\x7f", "\\u007f") if isinstance(item, str) else str(item)
-
-
 def table(head, keys, left_out=()):
-    return [head, *(f"{key} = {value(item)}" for key, item in keys.items() if key not in left_out), ""]
+    """The lines of a table, without these keys."""
+    return [head, *(pair(*one) for one in keys.items() if one[0] not in left_out), ""]
 
 
 def arguments(parser):
@@ -96,8 +86,8 @@ def run(options):
     """Prints the trace."""
     scenario, lines = read_document(options.scenario), lines_of(options.report)
     terminal = terminal_of(scenario, options)
-    document = [f"pin_key = {value(scenario['issuer']['pin_key'])}", "trace = ["]
-    document += [*(f"    {value(text)}," for text in entries(lines, options.lane, options.purchase)), "]", ""]
+    document = [pair("pin_key", scenario["issuer"]["pin_key"]), "trace = ["]
+    document += [*(f"    {toml(text)}," for text in entries(lines, options.lane, options.purchase)), "]", ""]
     document += table("[lane]", terminal, LANE_LEFT_OUT)
     for aid in terminal["aid"]:
         document += table("[[lane.aid]]", aid)

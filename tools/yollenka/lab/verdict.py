@@ -19,7 +19,7 @@ NOTE = "note"                # anything else that one should know
 class Line:
     """One finding. `kind` is of those above, `text` what it is, in words. `exchange` counts from 1, `line` is the log's; both
     None where it is about the whole. `sent` and `wanted` are the bytes, or None; `details` lines about objects and bits;
-    `because` the reference's reasons; `section` the Books' section, or an empty text."""
+    `because` the reference's reasons; `section` the Books' section, or names of rules (rules.py), or an empty text."""
 
     kind: str
     text: str

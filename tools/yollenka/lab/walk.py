@@ -13,7 +13,7 @@ from yollenka.lab.facts import settle, without_pad
 from yollenka.lab.logs import CARD, HOST, READING
 from yollenka.lab.oracle import Reference, reasons
 from yollenka.lab.permitted import COUNTERS, VERIFY, Scene, aside, excuse_of, lacking
-from yollenka.lab.rules import rule_of, step_of
+from yollenka.lab.rules import rules_of, rules_of_difference, rules_of_end
 from yollenka.lab.verdict import (
     BEHIND, FAILED, INCONCLUSIVE, LACKING, NOTE, OPEN, OWN, PASSED, PERMITTED, SUPPLIED, WRONG, Line, Verdict,
 )
@@ -128,7 +128,7 @@ class Walk:
         elif end.startswith("cut"):
             self.stop(OPEN, f"the card was gone, and the log has no {ask} without an answer")
         else:
-            section = step_of(self.reference.ask, self.reference.fed[:-1])
+            section = rules_of(self.reference.ask, self.reference.fed[:-1])
             self.stop(WRONG, f"the talk ends here, wanted {ask}", section=section)
 
     def at_card(self, at):
@@ -250,7 +250,7 @@ class Walk:
         only_kind = all(one.is_kind for one in wrong)
         kind = excused[0].kind if excused and only_kind else OPEN if only_kind and self.may_ask_otherwise() else WRONG
         bits = next((one.bits for one in wrong if one.bits), 0)
-        section = rule_of(ask, self.reference.fed[:-1], bits, is_kind)
+        section = rules_of_difference(ask, self.reference.fed[:-1], bits, is_kind)
         self.differ(kind, text, at, sent=sent, wanted=ask, details=tuple(details), section=section)
         if is_kind or bits:
             self.wanted_at.setdefault(len(self.lines) - 1, len(self.reference.fed) - 1)
@@ -273,7 +273,7 @@ class Walk:
         else:
             shows = self.shows_bytes(now, ask)
             self.differ(WRONG, text if name != wanted else f"{name}, with other bytes", at,
-                        section=step_of(ask, self.reference.fed[:-1]), sent=now.sent if shows else None, wanted=ask if shows else None)
+                        section=rules_of(ask, self.reference.fed[:-1]), sent=now.sent if shows else None, wanted=ask if shows else None)
         self.mend(at)
 
     def shows_bytes(self, now, ask):
@@ -326,7 +326,7 @@ class Walk:
         if now.side == HOST:
             self.hear_host(at)
         elif hosts:
-            section = step_of(self.reference.ask, self.reference.fed[:-1])
+            section = rules_of(self.reference.ask, self.reference.fed[:-1])
             self.differ(WRONG, f"{command_name(now.sent)}, wanted the message to the host", at, section=section)
             self.take(at)
         else:
@@ -371,6 +371,7 @@ class Walk:
         """The log goes on where the reference has ended."""
         one = self.log[at]
         kind, why, section = replies.going_on(ending, self.said, self.settled.lane)
+        section = section or rules_of_end(ending)
         text = f"{ask_name(one.side, one.sent)}, but the reference ends {ending}{why}"
         self.differ(kind, text, at, section=section)
 

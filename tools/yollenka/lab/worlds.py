@@ -1,6 +1,6 @@
 """The proved card beside a card that was pulled out: one card for each state in which it may have been left."""
 from yollenka.faults import Fault
-from yollenka.lines import begin
+from yollenka.lines import begin, end
 
 # What each decision of a command keeps, in their order: before the first one, behind it, behind the second one.
 KEPT = {
@@ -50,10 +50,7 @@ class Proved:
 
     def close(self):
         """Ends its program."""
-        self.process.kill()
-        self.process.stdin.close()
-        self.process.stdout.close()
-        self.process.wait()
+        end(self.process)
 
     def pulled(self, plan):
         """A card to which the same was said, pulled out at this place behind its last power-up; and at which line from there."""

@@ -376,10 +376,25 @@ def document(data):
     return Table(its, "")
 
 
+KEYS = table(ac_key=key, mac_key=key, enc_key=key, pin_key=key)
+
+
+def cards_of(data):
+    """The cards of a document, whose other tables don't count."""
+    its = document(data)
+    return its.take("card", array(1, 64, card([], its.take("issuer", KEYS))))
+
+
+def accounts_of(data):
+    """The issuer's keys and accounts of a document, whose other tables don't count."""
+    its = document(data)
+    return its.take("issuer", KEYS), its.take("account", array(0, 1000, account([])))
+
+
 def scenario_of(data, word):
     """The scenario that a document is."""
     its, cards, before = document(data), [], []
-    keys = its.take("issuer", table(ac_key=key, mac_key=key, enc_key=key, pin_key=key))
+    keys = its.take("issuer", KEYS)
     its.take("account", array(0, 1000, account([])))
     its.take("card", array(1, 64, card(cards, keys)))
     its.take("lane", array(1, 16, lane(keys, cards, before)))

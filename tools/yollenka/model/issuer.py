@@ -1,33 +1,46 @@
-"""The issuer: its replies and balances, each read from the messages that it kept (docs/proof/profile.md, docs/proof/formats.md)."""
+"""The issuer: its replies, their reasons, and balances, each read from the messages that it kept (docs/proof/profile.md,
+docs/proof/formats.md).
+
+Why a reply is as it is has one of these reasons, each with what belongs to it. They are tried in this order:
+
+    unreadable FAULT          the bytes are no message of a terminal: 05, and it isn't kept
+    repeat NUMBER             a message of the kind and transaction was kept, with the same bytes: its reply again
+    other-bytes NUMBER        .. with other bytes: 05, and it isn't kept
+    unknown-account           no account has the number: 14
+    cryptogram                a request's or presentment's cryptogram isn't right: 05
+    then of a request, whose reply authenticates the issuer:
+    blocked                   the account is blocked: 05
+    currency MESSAGE ACCOUNT  the currency isn't the account's: 05
+    reversed NUMBER           a reversal of the transaction was kept, whatever it was answered: 05
+    presented NUMBER          a presentment of the transaction was kept, whatever it was answered: 05
+    expired EXPIRY DATE       the card's expiry is before the date: 54
+    pin                       there is a PIN block and it isn't the account's PIN: 55
+    above-balance AMOUNT BALANCE  the balance is below the amount: 51
+    approved AMOUNT           00, and the amount is held
+    of a presentment:
+    currency MESSAGE ACCOUNT  05
+    reversed NUMBER           a reversal of the transaction was answered 00: 05
+    settled AMOUNT HELD       00, and the amount is booked in place of what was held, if it was
+    of a reversal:
+    presented NUMBER          a presentment of the transaction was answered 00: 05
+    released AMOUNT           00, and what was held is set free
+    nothing-held              00, and nothing was held
+
+A NUMBER is that of a message that was kept, of all messages from 1. Behind the reason stands `scripts` where the reply carries
+the account's scripts: that is the first reply to the account that authenticates the issuer, whatever its code.
+"""
 from .ciphers import (
     block_of, code_of, counted_key, encipher_two, master_key, online_pin, response_one, response_two, session_key,
 )
-from .objects import account_number, day, objects, spelled
+from .messages import PRESENTMENT, REQUEST, REVERSAL, Message, Unreadable
+from .objects import day, spelled
 
-REQUEST, PRESENTMENT, REVERSAL = 0xE1, 0xE3, 0xE4
 GOOD = b"00"
 COVERED = (0x9F02, 0x9F03, 0x9F1A, 0x95, 0x5F2A, 0x9A, 0x9C, 0x9F37, 0x82, 0x9F36, 0x9F10)
 HEADERS = {
     "block": "841E0000", "unblock": "84180000", "card_block": "84160000", "pin_unblock": "84240000", "pin": "84240002",
     "count": "04DADF01", "amount": "04DADF02",
 }
-
-
-class Message:
-    """A terminal's message, which has no fault."""
-
-    def __init__(self, data):
-        (outer,) = objects(data)[0]
-        self.kind, self.data = outer.tag, data
-        self.fields = {one.tag: one.value for one in objects(outer.value)[0]}
-        self.pan = account_number(self.fields[0x5A])
-        self.sequence = self.fields.get(0x5F34, b"\0")[0]
-        self.counter = self.fields[0x9F36]
-        self.transaction = self.pan, self.sequence, self.counter
-
-    def amount(self):
-        """The amount."""
-        return int(self.fields[0x9F02].hex())
 
 
 def plain(code):
@@ -51,49 +64,79 @@ def command_of(text, code_key, pin_key, message):
     return header + bytes([len(data)]) + data
 
 
+class Kept:
+    """A message that is kept: its reply, the reason, and its number."""
+
+    def __init__(self, message, number):
+        self.message, self.number = message, number
+        self.reply = self.reason = None
+
+    def went_well(self):
+        """Whether it was answered 00."""
+        return self.reason[0] in ("approved", "settled", "released", "nothing-held")
+
+
 class Issuer:
-    """An issuer with these keys and accounts."""
+    """An issuer with these keys and accounts; `reason` is that of the last reply."""
 
     def __init__(self, keys, accounts):
         self.keys, self.accounts = keys, {account["pan"]: account for account in accounts}
-        # What is kept: of each kind and transaction the first message, its reply, and the code of a genuine request.
-        self.kept, self.served = {}, set()
+        # What is kept: of each kind and transaction the first message.
+        self.kept, self.served, self.count, self.reason = {}, set(), 0, None
 
-    def reply(self, data):
-        """The reply to a message."""
-        message = Message(data)
-        place = message.kind, message.transaction
-        if place not in self.kept:
-            self.kept[place] = message, *self.decided(message)
-        elif self.kept[place][0].data != data:
+    def answer(self, data):
+        """The reply to these bytes."""
+        self.count += 1
+        try:
+            message = Message(data)
+        except Unreadable as fault:
+            self.reason = "unreadable", str(fault)
             return plain(b"05")
-        return self.kept[place][1]
+        place = message.kind, message.transaction
+        kept = self.kept.get(place)
+        if kept:
+            is_same = kept.message.data == data
+            self.reason = "repeat" if is_same else "other-bytes", kept.number
+            return kept.reply if is_same else plain(b"05")
+        kept = Kept(message, self.count)
+        code, *kept.reason = self.decided(message)
+        kept.reply, carried = self.reply(message, code, kept.reason[0])
+        self.kept[place] = kept
+        self.reason = (*kept.reason, *carried)
+        return kept.reply
+
+    def found(self, kind, transaction, wholly=True):
+        """The message of a kind that was kept for a transaction, and answered 00 where that is asked; or None."""
+        kept = self.kept.get((kind, transaction))
+        return kept if kept and (kept.went_well() or not wholly) else None
 
     def decided(self, message):
-        """The reply to a message that is new, and the code of a genuine request or None."""
-        account = self.accounts.get(message.pan)
+        """The code for a message that is new, and the reason."""
+        account, transaction = self.accounts.get(message.pan), message.transaction
         if account is None:
-            return plain(b"14"), None
+            return b"14", "unknown-account"
         if message.kind == REVERSAL:
-            return plain(b"05" if self.went_well(PRESENTMENT, message.transaction) else GOOD), None
+            presented, held = self.found(PRESENTMENT, transaction), self.found(REQUEST, transaction)
+            if presented:
+                return b"05", "presented", presented.number
+            return (GOOD, "released", held.message.amount()) if held else (GOOD, "nothing-held")
         if not self.is_genuine(message):
-            return plain(b"05"), None
+            return b"05", "cryptogram"
         if message.kind == REQUEST:
-            code = self.code_for(message, account)
-            return self.authorised(message, account, code), code
-        in_currency = message.fields[0x5F2A] == account["currency"]
-        return plain(GOOD if in_currency and not self.went_well(REVERSAL, message.transaction) else b"05"), None
-
-    def went_well(self, kind, transaction):
-        """Whether such a message of the transaction was kept with code 00."""
-        return (kind, transaction) in self.kept and self.kept[kind, transaction][1] == plain(GOOD)
+            return self.authorised(message, account)
+        if message.fields[0x5F2A] != account["currency"]:
+            return b"05", "currency", message.fields[0x5F2A].hex(), account["currency"].hex()
+        reversed_, held = self.found(REVERSAL, transaction), self.found(REQUEST, transaction)
+        if reversed_:
+            return b"05", "reversed", reversed_.number
+        return GOOD, "settled", message.amount(), *([held.message.amount()] if held else [])
 
     def taken(self, transaction):
         """What a transaction takes from its account."""
-        if self.went_well(PRESENTMENT, transaction):
-            return self.kept[PRESENTMENT, transaction][0].amount()
-        message, _, code = self.kept.get((REQUEST, transaction), (None, None, None))
-        return message.amount() if code == GOOD and not self.went_well(REVERSAL, transaction) else 0
+        presented, requested = self.found(PRESENTMENT, transaction), self.found(REQUEST, transaction)
+        if presented:
+            return presented.message.amount()
+        return requested.message.amount() if requested and not self.found(REVERSAL, transaction) else 0
 
     def balance(self, pan):
         """What is on an account."""
@@ -109,21 +152,28 @@ class Issuer:
         text = b"".join(message.fields[tag] for tag in COVERED)
         return code_of(self.session_key(message), text) == message.fields[0x9F26]
 
-    def code_for(self, message, account):
-        """The response code of a genuine request."""
+    def authorised(self, message, account):
+        """The code for a genuine request, and the reason."""
         fields, transaction = message.fields, message.transaction
-        if account["blocked"] or fields[0x5F2A] != account["currency"]:
-            return b"05"
-        if (REVERSAL, transaction) in self.kept or (PRESENTMENT, transaction) in self.kept:
-            return b"05"
+        if account["blocked"]:
+            return b"05", "blocked"
+        if fields[0x5F2A] != account["currency"]:
+            return b"05", "currency", fields[0x5F2A].hex(), account["currency"].hex()
+        for kind, reason in ((REVERSAL, "reversed"), (PRESENTMENT, "presented")):
+            if kept := self.found(kind, transaction, wholly=False):
+                return b"05", reason, kept.number
         if day(fields[0x5F24]) < day(fields[0x9A]):
-            return b"54"
+            return b"54", "expired", fields[0x5F24].hex(), fields[0x9A].hex()
         if 0xDF11 in fields and online_pin(self.keys["pin_key"], fields[0xDF11], message.pan) != (account["pin"] or ""):
-            return b"55"
-        return GOOD if message.amount() <= self.balance(message.pan) else b"51"
+            return b"55", "pin"
+        amount, balance = message.amount(), self.balance(message.pan)
+        return (GOOD, "approved", amount) if amount <= balance else (b"51", "above-balance", amount, balance)
 
-    def authorised(self, message, account, code):
-        """The reply to a genuine request: the first one of an account has its scripts."""
+    def reply(self, message, code, reason):
+        """The reply with this code, and what it carries: to a genuine request it authenticates the issuer."""
+        if message.kind != REQUEST or reason in ("unknown-account", "cryptogram"):
+            return plain(code), ()
+        account = self.accounts[message.pan]
         key, cryptogram = self.session_key(message), message.fields[0x9F26]
         if account["arpc"] == 1:
             data = response_one(key, cryptogram, code) + code
@@ -133,7 +183,7 @@ class Issuer:
             data = response_two(key, cryptogram, status) + status
         scripts = b"" if message.pan in self.served else self.scripts(message, account)
         self.served.add(message.pan)
-        return spelled(0xE2, spelled(0x8A, code) + spelled(0x91, data) + scripts)
+        return spelled(0xE2, spelled(0x8A, code) + spelled(0x91, data) + scripts), ("scripts",) if scripts else ()
 
     def scripts(self, message, account):
         """The account's scripts for this transaction."""

@@ -14,12 +14,12 @@ class Lost(Exception):
 class Pages:
     """The pages as the program's own memory has them.
 
-    A cell is the byte that was written last, perhaps torn, and the one that it gives. Where they differ it is unsure: at every
-    other power-up it goes over to the torn byte, and stays with it.
+    A cell is the byte that was written last, perhaps torn, the one that it gave when it was torn, and the one that it gives. Where
+    the first two differ it is unsure: from power-up to power-up it gives the one and the other by turns.
     """
 
     def __init__(self):
-        self.cells = [[(0, 0)] * CELLS for _ in range(PAGES)]
+        self.cells = [[(0, 0, 0)] * CELLS for _ in range(PAGES)]
         self.tear, self.powered, self.torn = None, 0, set()
 
     def power_up(self, tear=None):
@@ -29,13 +29,14 @@ class Pages:
         for page in self.torn:
             self.cells[page] = [self.settled(*place) for place in enumerate(self.cells[page])]
 
-    def settled(self, cell, pair):
+    def settled(self, number, cell):
         """What becomes of a cell at this power-up."""
-        return (pair[0], pair[0]) if (cell + self.powered) % 2 == 0 else pair
+        torn, kept, _ = cell
+        return torn, kept, torn if (number + self.powered) % 2 == 0 else kept
 
     def read(self, page):
         """The bytes of a page; the same ones up to the next power-up."""
-        return bytes(given for _, given in self.cells[page])
+        return bytes(given for _, _, given in self.cells[page])
 
     def mark(self):
         """Begins a commit."""
@@ -47,10 +48,10 @@ class Pages:
         tear, before = self.tear, self.read(page)
         if tear and tear["commit"] == self.commit and tear["write"] == self.writes:
             if tear["at"] == "within":
-                self.cells[page] = list(zip(content, before))
+                self.cells[page] = list(zip(content, before, before))
                 self.torn.add(page)
             raise Lost
-        self.cells[page] = [(byte, byte) for byte in content]
+        self.cells[page] = [(byte, byte, byte) for byte in content]
         self.torn.discard(page)
 
     def release(self):

@@ -111,7 +111,7 @@ class World:
     def settle(self, lane, message):
         """Hands a capture to the issuer, as often as the scenario says."""
         for _ in range(self.scenario["copies"]):
-            reply = self.issuer.reply(message)
+            reply = self.issuer.answer(message)
             self.lines += [f"S{lane.number} > {shown(message)}", f"S{lane.number} < {shown(reply)}"]
 
     def audit(self, name, card):
@@ -192,7 +192,7 @@ class World:
         """A message and its reply, or None where none comes back."""
         head, link, reply = f"L{lane.number} host", lane.left[0][1]["link"], None
         for _ in range({"request_lost": 0, "twice": 2}.get(link, 1)):
-            reply = self.issuer.reply(said)
+            reply = self.issuer.answer(said)
         reply = None if link == "reply_lost" else reply
         self.lines += [f"{head} > {shown(said)}", f"{head} < {'none' if reply is None else shown(reply)}"]
         return reply

@@ -5,20 +5,20 @@ ghost use Rattle.std.specs.List.{All};
 ghost use Rattle.emv_dict.specs.Settings.{IsAidRow};
 ghost use Rattle.emv_dict.specs.Progress.{Progress, Wants, Leads};
 ghost use Rattle.app_select.specs.Candidates.{CandidateData};
-ghost use Rattle.app_select.specs.Fci.{FciData, IsShort};
-ghost use Rattle.app_select.specs.Leading.{Listed, rest_with, answers_left, HasRoom};
-ghost use Rattle.app_select.specs.Listed.{found_by, goes_on, most_occurrences};
-ghost use Rattle.app_select.specs.NextLeads.{SearchNextLeads, NextHasRoom, answers_left_next};
+ghost use Rattle.app_select.specs.Fci.{FciData, IsShortList};
+ghost use Rattle.app_select.specs.Leading.{Listed, rest_with, search_answers_left, HasRoomForCandidates};
+ghost use Rattle.app_select.specs.Listed.{candidate_by, has_next_occurrence, most_occurrences};
+ghost use Rattle.app_select.specs.NextLeads.{SearchNextLeads, NextHasRoom, search_answers_left_next};
 ghost use Rattle.app_select.specs.Named.{BeginsWith, HaveRows, all_named};
 ghost use Rattle.app_select.specs.Said.{Named, select_said};
 ghost use Rattle.app_select.specs.SeenCandidate.{seen_candidate};
 ghost use Rattle.app_select.specs.SeenSaid.{seen_fci};
 ghost use Rattle.app_select.specs.SeenState.{seen_asked, seen_course};
-ghost use Rattle.app_select.specs.Selecting.{SelectedData, listing, opening};
+ghost use Rattle.app_select.specs.Selecting.{SelectedData, listing, first_selected};
 
 use super::{Asked, Choice, Pdol, Search, SearchNext};
 use crate::candidates::{Candidate, Candidates};
-use crate::course::{Course, Row};
+use crate::course::{ListTurn, Row};
 use crate::fci::{Fci, Said, read_select};
 use crate::naming::{Found, is_longer, is_supported};
 use crate::select::{FIRST_OCCURRENCE, NEXT_OCCURRENCE, write_select};
@@ -57,17 +57,17 @@ fn occurrence(turn: u8) -> u8
 
 /// Takes an answer to a SELECT of the list.
 pub(super) fn listed<'s>(
-    course: Course<'s>,
+    course: ListTurn<'s>,
     candidates: &mut Candidates<'s>,
     reply: &[u8],
 ) -> SearchNext<'s>
     requires turn { course.turn < most_occurrences }
-    requires room { HasRoom (seen_course course) candidates.old }
+    requires room { HasRoomForCandidates (seen_course course) candidates.old }
     ensures leads { (whole : List (List ℕ) → Progress SelectedData) (answers : List (List ℕ))
         → Leads whole answers (rest_with (seen_course course.entry) candidates.old)
         → SearchNextLeads candidates.new whole (answers ++ reply.now ∷ []) result }
     ensures room { NextHasRoom result candidates.new }
-    ensures nearer { answers_left_next result candidates.new < answers_left (seen_course course.entry) candidates.old }
+    ensures nearer { search_answers_left_next result candidates.new < search_answers_left (seen_course course.entry) candidates.old }
 {
     match read_select(reply) {
         Said::Unreadable => SearchNext::Ended(Cause::Answer),
@@ -79,24 +79,24 @@ pub(super) fn listed<'s>(
 
 /// Takes a readable FCI of the list.
 fn named<'s>(
-    course: Course<'s>,
+    course: ListTurn<'s>,
     valid: bool,
     fci: &Fci<'_>,
     candidates: &mut Candidates<'s>,
 ) -> SearchNext<'s>
     requires turn { course.turn < most_occurrences }
-    requires room { HasRoom (seen_course course) candidates.old }
+    requires room { HasRoomForCandidates (seen_course course) candidates.old }
     ensures leads { (whole : List (List ℕ) → Progress SelectedData) (answers : List (List ℕ)) (reply : List ℕ)
         → select_said reply ≡ Named valid (seen_fci fci.now)
         → Leads whole answers (rest_with (seen_course course.entry) candidates.old)
         → SearchNextLeads candidates.new whole (answers ++ reply ∷ []) result }
     ensures room { NextHasRoom result candidates.new }
-    ensures nearer { answers_left_next result candidates.new < answers_left (seen_course course.entry) candidates.old }
+    ensures nearer { search_answers_left_next result candidates.new < search_answers_left (seen_course course.entry) candidates.old }
 {
     add(course.row, valid, fci, candidates);
     if goes_on(course.row.row, course.turn, &fci.name) {
         SearchNext::Ask(Search {
-            asked: Asked::Listed(Course {
+            asked: Asked::Listed(ListTurn {
                 row: course.row,
                 later: course.later,
                 turn: course.turn + 1,
@@ -111,7 +111,7 @@ fn named<'s>(
 /// Adds the application that a readable FCI gives, where it is valid and the terminal supports it.
 fn add<'s>(row: Row<'s>, valid: bool, fci: &Fci<'_>, candidates: &mut Candidates<'s>)
     requires { length candidates.old < 256 }
-    ensures found { candidates.new ≡ candidates.old ++ option_to_list (found_by row.entry.row.now (Named valid (seen_fci fci.now))) }
+    ensures found { candidates.new ≡ candidates.old ++ option_to_list (candidate_by row.entry.row.now (Named valid (seen_fci fci.now))) }
     ensures few { length candidates.new ≤ length candidates.old + 1 }
 {
     if valid && is_supported(row.row, &fci.name) {
@@ -126,7 +126,7 @@ fn add<'s>(row: Row<'s>, valid: bool, fci: &Fci<'_>, candidates: &mut Candidates
 /// Whether the next occurrence of an AID is asked for behind this name.
 fn goes_on(row: &AidRow, turn: u8, name: &Name) -> bool
     requires { turn < most_occurrences }
-    ensures exact { (valid : Bool) (fci : FciData) → fci.name ≡ name.now → result ≡ goes_on row.now turn (Named valid fci) }
+    ensures exact { (valid : Bool) (fci : FciData) → fci.name ≡ name.now → result ≡ has_next_occurrence row.now turn (Named valid fci) }
     ensures few { result ≡ true → turn + 1 < most_occurrences }
 {
     is_longer(row, name) && turn + 1 < MOST_OCCURRENCES
@@ -142,7 +142,7 @@ pub(super) fn first_row<'s>(rows: &'s [AidRow], confirm: bool) -> Search<'s>
         unreachable!();
     };
     Search {
-        asked: Asked::Listed(Course {
+        asked: Asked::Listed(ListTurn {
             row: Row { row },
             later,
             turn: 0,
@@ -163,7 +163,7 @@ fn next_row<'s>(
         → Leads whole answers (listing (record { found = candidates.old; rows = later.entry.now; turn = 0; confirm = confirm }))
         → SearchNextLeads candidates.new whole answers result }
     ensures room { NextHasRoom result candidates.new }
-    ensures nearer { answers_left_next result candidates.new ≤ 2 * (most_occurrences * length later.entry.now) + length candidates.old }
+    ensures nearer { search_answers_left_next result candidates.new ≤ 2 * (most_occurrences * length later.entry.now) + length candidates.old }
 {
     if later.is_empty() {
         candidates.arrange(confirm);
@@ -195,9 +195,9 @@ pub(super) fn push_named<'s>(rows: &'s [AidRow], found: &[Found], candidates: &m
 pub(super) fn choose<'s>(candidates: &mut Candidates<'s>) -> SearchNext<'s>
     ensures begins { BeginsWith candidates.old result candidates.new }
     ensures leads { (whole : List (List ℕ) → Progress SelectedData) (answers : List (List ℕ))
-        → Leads whole answers (opening candidates.old) → SearchNextLeads candidates.new whole answers result }
+        → Leads whole answers (first_selected candidates.old) → SearchNextLeads candidates.new whole answers result }
     ensures room { NextHasRoom result candidates.new }
-    ensures nearer { answers_left_next result candidates.new ≤ length candidates.old }
+    ensures nearer { search_answers_left_next result candidates.new ≤ length candidates.old }
 {
     match candidates.pop_front() {
         None => SearchNext::Ended(Cause::NoCandidate),
@@ -214,10 +214,10 @@ pub(super) fn opened<'s>(
     reply: &[u8],
 ) -> SearchNext<'s>
     ensures leads { (whole : List (List ℕ) → Progress SelectedData) (answers : List (List ℕ))
-        → Leads whole answers (opening (seen_candidate candidate.entry ∷ candidates.old))
+        → Leads whole answers (first_selected (seen_candidate candidate.entry ∷ candidates.old))
         → SearchNextLeads candidates.new whole (answers ++ reply.now ∷ []) result }
     ensures room { NextHasRoom result candidates.new }
-    ensures nearer { answers_left_next result candidates.new ≤ length candidates.old }
+    ensures nearer { search_answers_left_next result candidates.new ≤ length candidates.old }
 {
     match read_select(reply) {
         Said::Unreadable => SearchNext::Ended(Cause::Answer),
@@ -238,7 +238,7 @@ pub(super) fn opened<'s>(
 
 /// An object list in a buffer of its own.
 fn copied(pdol: Option<&[u8]>) -> Option<Pdol>
-    requires { IsShort (option_map (λ list. list.now) pdol) }
+    requires { IsShortList (option_map (λ list. list.now) pdol) }
     ensures { option_map (λ list. list.items) result ≡ option_map (λ list. list.now) pdol.entry }
 {
     let bytes = pdol?;

@@ -1,18 +1,16 @@
 //! One reply, in whatever step waits for it.
-ghost use Rattle.std.specs.Prelude.{◌≡◌, ◌<◌, ◌∷◌, List, option_map};
+ghost use Rattle.std.specs.Prelude.{◌≡◌, List, option_map};
 ghost use Rattle.emv_dict.specs.declared.purchase.Logged.{Logged};
-ghost use Rattle.kernel.specs.Course.{Standing};
-ghost use Rattle.kernel.specs.Dialogue.{Trade};
+ghost use Rattle.kernel.specs.Dialogue.{TransactionData};
 ghost use Rattle.kernel.specs.Fits.{OpeningFits};
 ghost use Rattle.kernel.specs.Kernel.{opening_next, trading_next};
 ghost use Rattle.kernel.specs.Rank.{opening_rank, trading_rank};
 ghost use Rattle.kernel.specs.Reading.{IsBeforeReading};
-ghost use Rattle.kernel.specs.Reply.{Reply, CardSaid, CardGone, from_host};
-ghost use Rattle.kernel.specs.Stages.{OpeningStands, TradingStands, HasRoom, scripts_left, HasMessage};
-ghost use Rattle.kernel.specs.Trades.{trade_of};
+ghost use Rattle.kernel.specs.Reply.{CardSaid, CardGone, from_host};
+ghost use Rattle.kernel.specs.Stages.{HasAsked, OpeningStands, TradingStands, HasRoomForResults, scripts_left};
+ghost use Rattle.kernel.specs.Steps.{StepComes, OpeningTakes, OpensAs, TakesOn, TakesReply};
+ghost use Rattle.kernel.specs.Transactions.{transaction_of};
 ghost use Rattle.kernel.specs.declared.kernel.Next.TheVariants as next;
-ghost use Rattle.terminal_state.specs.Marks.{Mark};
-ghost use Rattle.terminal_state.specs.Table.{IsDeal, deal_of};
 ghost use Rattle.terminal_state.specs.declared.table.Table.{Table};
 
 use crate::analysis::on_first;
@@ -30,15 +28,10 @@ use terminal_state::Table;
 
 /// The card's answer before its records are read.
 pub(super) fn on_answer<'s>(table: &mut Table<'s>, state: Opening<'s>, reply: &[u8]) -> Opening<'s>
-    requires deal { IsDeal (deal_of table.old) }
     requires fits { OpeningFits table.old state }
     requires before { IsBeforeReading state }
-    ensures stands { (before now : List Logged) (rest : List Reply → Standing Mark)
-        → OpeningStands table.old state.entry before rest
-        → OpeningStands table.new result now (λ later. rest (CardSaid reply.now now ∷ later)) }
-    ensures same { deal_of table.new ≡ deal_of table.old }
-    ensures nearer { opening_rank table.new result < opening_rank table.old state.entry }
-    ensures fits { OpeningFits table.new result }
+    ensures stands { OpeningTakes table.old table.new state.entry result reply.now }
+    ensures step { OpensAs table.old table.new result (opening_rank table.old state.entry) }
 {
     match state {
         Opening::Directory(state) => on_directory(table, state, reply),
@@ -51,9 +44,7 @@ pub(super) fn on_answer<'s>(table: &mut Table<'s>, state: Opening<'s>, reply: &[
 /// The card is gone before it is read: at the power-up where it has not answered yet, else in the step that
 /// waits.
 pub(super) fn cut_off<'s>(state: Opening<'s>) -> Opening<'s>
-    ensures stands { (table : Table) (before : List Logged) (rest : List Reply → Standing Mark)
-        → OpeningStands table state.entry before rest
-        → OpeningStands table result before (λ later. rest (CardGone ∷ later)) }
+    ensures stands { (table : Table) (before : List Logged) → TakesOn (OpeningStands table state.entry before) (OpeningStands table result before) CardGone }
     ensures fits { (table : Table) → OpeningFits table result }
     ensures over { (table : Table) → opening_rank table result ≡ 0 }
     ensures ended { opening_next result ≡ next.Ended }
@@ -74,15 +65,12 @@ pub(super) fn on_card<'s>(
     trading: Trading<'s>,
     reply: &[u8],
 ) -> Trading<'s>
-    requires room { HasRoom table.old (scripts_left table.old.reply.scripts trading) }
+    requires room { HasRoomForResults table.old (scripts_left table.old.reply.scripts trading) }
+    requires asked { HasAsked table.old trading }
     requires waits { trading_next trading ≡ next.ToCard }
-    ensures stands { (before : List Logged) (rest : List Reply → Standing Mark)
-        → TradingStands table.old (trade_of transaction.now) trading.entry before rest
-        → TradingStands table.new (trade_of transaction.now) result transaction.now.log.now (λ later. rest (CardSaid reply.now transaction.now.log.now ∷ later)) }
-    ensures same { deal_of table.new ≡ deal_of table.old }
-    ensures nearer { trading_rank table.new.reply.scripts result < trading_rank table.old.reply.scripts trading.entry }
-    ensures room { HasRoom table.new (scripts_left table.new.reply.scripts result) }
-    ensures asked { HasMessage table.new result }
+    ensures stands { (before : List Logged) → TakesOn (TradingStands table.old (transaction_of transaction.now) trading.entry before)
+        (TradingStands table.new (transaction_of transaction.now) result transaction.now.log.now) (CardSaid reply.now transaction.now.log.now) }
+    ensures step { StepComes table.old table.new result (trading_rank table.old trading.entry) }
 {
     match trading {
         Trading::Verify(state) => on_verify(table, transaction, state, reply),
@@ -98,16 +86,12 @@ pub(super) fn on_card<'s>(
 
 /// The card is gone: the step that waits is named, and behind the second cryptogram the ending stands.
 pub(super) fn on_gone<'s>(table: &mut Table<'s>, trading: Trading<'s>) -> Trading<'s>
-    requires room { HasRoom table.old (scripts_left table.old.reply.scripts trading) }
+    requires room { HasRoomForResults table.old (scripts_left table.old.reply.scripts trading) }
+    requires asked { HasAsked table.old trading }
     requires waits { trading_next trading ≡ next.ToCard }
-    ensures stands { (trade : Trade) (log : List Logged) (rest : List Reply → Standing Mark)
-        → TradingStands table.old trade trading.entry log rest
-        → TradingStands table.new trade result log (λ later. rest (CardGone ∷ later)) }
+    ensures stands { (transaction : TransactionData) → TakesReply table.old table.new transaction trading.entry result CardGone }
     ensures ended { trading_next result ≡ next.Ended }
-    ensures same { deal_of table.new ≡ deal_of table.old }
-    ensures nearer { trading_rank table.new.reply.scripts result < trading_rank table.old.reply.scripts trading.entry }
-    ensures room { HasRoom table.new (scripts_left table.new.reply.scripts result) }
-    ensures asked { HasMessage table.new result }
+    ensures step { StepComes table.old table.new result (trading_rank table.old trading.entry) }
 {
     match trading {
         Trading::Verify(_) => Trading::Over(Ending::CutOff(Step::Verify)),
@@ -128,15 +112,10 @@ pub(super) fn on_host<'s>(
     trading: Trading<'s>,
     reply: Option<&[u8]>,
 ) -> Trading<'s>
-    requires room { HasRoom table.old (scripts_left table.old.reply.scripts trading) }
+    requires room { HasRoomForResults table.old (scripts_left table.old.reply.scripts trading) }
     requires waits { trading_next trading ≡ next.ToHost }
-    ensures stands { (log : List Logged) (rest : List Reply → Standing Mark)
-        → TradingStands table.old (trade_of transaction.now) trading.entry log rest
-        → TradingStands table.new (trade_of transaction.now) result log (λ later. rest (from_host (option_map (λ reply. reply.now) reply.entry) ∷ later)) }
-    ensures same { deal_of table.new ≡ deal_of table.old }
-    ensures nearer { trading_rank table.new.reply.scripts result < trading_rank table.old.reply.scripts trading.entry }
-    ensures room { HasRoom table.new (scripts_left table.new.reply.scripts result) }
-    ensures asked { HasMessage table.new result }
+    ensures stands { TakesReply table.old table.new (transaction_of transaction.now) trading.entry result (from_host (option_map (λ reply. reply.now) reply.entry)) }
+    ensures step { StepComes table.old table.new result (trading_rank table.old trading.entry) }
 {
     match trading {
         Trading::Online => match reply {

@@ -10,7 +10,7 @@ append-requires-2 c =
     let none : length c.clear.new.self.items ≡ 0 = ap (λ (xs : List ℕ). length xs) c.clear.ensures in
     let rest : length (take (length s - 2) (drop 2 s)) ≡ length s - 2 = ap (λ (xs : List ℕ). length xs) (take_rest s 2) ∙ length-drop 2 s in
     let short = state_short s c.requires.state in
-    let room = c.requires.room in
+    let room = c.requires.may.room in
     let len = c.append.ensures.len in omega (arith, none, rest, short, room, len)
 
 pub append_entry-requires : goal.append_entry-requires
@@ -19,8 +19,8 @@ append_entry-requires c =
     let none : length c.clear.new.self.items ≡ 0 = ap (λ (xs : List ℕ). length xs) c.clear.ensures in
     let rest : length (take (length s - 2) (drop 2 s)) ≡ length s - 2 = ap (λ (xs : List ℕ). length xs) (take_rest s 2) ∙ length-drop 2 s in
     let short = state_short s c.requires.state in
-    let room = c.requires.room in
-    let message = c.requires.message.short in
+    let room = c.requires.may.room in
+    let message = c.requires.may.message.short in
     let len = c.append.ensures.len in
     let more = c.append-2.ensures.len in omega (arith, none, rest, short, room, message, len, more)
 
@@ -29,7 +29,7 @@ returns-clause-state c =
     let out =
     longer_put c.args.state.now c.args.message.now c.count_in.result c.clear.new.self.items c.append.new.out.items c.append-2.new.out.items c.append_entry.new.out.items
     c.requires.state c.count_in.ensures c.clear.ensures c.append.ensures.items c.append-2.ensures.items c.append_entry.ensures in
-    longer_state c.args.state.now c.args.message.now c.append_entry.new.out.items c.requires.state c.requires.room c.requires.message out
+    longer_state c.args.state.now c.args.message.now c.append_entry.new.out.items c.requires.state c.requires.may.room c.requires.may.message out
 
 pub returns-clause-list : goal.returns-clause-list
 returns-clause-list c =

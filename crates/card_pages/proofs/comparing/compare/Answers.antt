@@ -19,4 +19,4 @@ returns-in-Ok-decide-clause-takes g c opening ds plan made on =
 pub returns-in-Err-decide-clause-cut : goal.returns-in-Err-decide-clause-cut
 returns-in-Err-decide-clause-cut g c opening ds plan made on =
     cut_right c.args.with.now c.args.kept.now opening ds plan made on c.decide.new.self c.in-Ok.ensures.takes (sym c.is_right.ensures ∙ c.if-not-is_right.false)
-    c.decide-2.new.self.memory c.in-Ok.ensures.losses c.in-Err-decide.ensures.cut
+    c.decide-2.new.self.memory c.in-Ok.ensures.stays.losses c.in-Err-decide.ensures.cut

@@ -3,4 +3,4 @@ use Rattle.std.proofs.Common.{[], None}
 use Rattle.card_sessions.proofs.tears.try_plans.Goals as goal
 
 pub purchase_cut-requires-clause-card : goal.purchase_cut-requires-clause-card
-purchase_cut-requires-clause-card g c = ([], None, c.new-chip.ensures.off)
+purchase_cut-requires-clause-card g c = ([], None, c.new-icc.ensures.off)

@@ -1,7 +1,7 @@
 use Rattle.std.proofs.Common.{List, ap, ◌∙◌, refl, subst, ◌++◌}
 use Rattle.std.specs.List.{All, flat_map}
 use Rattle.card_state.specs.declared.state.LogRow.{LogRow}
-use Rattle.card_state.specs.Encoding.{app_bytes, app_bytes_one, more_bytes, row_bytes, IsRow}
+use Rattle.card_state.specs.Encoding.{app_bytes, app_bytes_one, more_bytes, row_bytes, IsLogRow}
 use Rattle.card_state.proofs.Bytes.{three_parts}
 use Rattle.card_state.proofs.encoding.append_app.Goals as goal
 
@@ -16,5 +16,5 @@ pub returns-clause-ranges : goal.returns-clause-ranges
 returns-clause-ranges c = record {
   one = c.append_first.ensures.ranges;
   more = c.append_more.ensures.ranges;
-  rows = subst (λ (rows : List LogRow). All IsRow rows) c.as_slice.ensures.value c.append_rows.ensures.ranges;
+  rows = subst (λ (rows : List LogRow). All IsLogRow rows) c.as_slice.ensures.value c.append_rows.ensures.ranges;
 }

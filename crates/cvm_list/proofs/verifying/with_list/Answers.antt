@@ -3,7 +3,7 @@ use Rattle.cvm_list.proofs.Opening.{no_rules, with_rules}
 use Rattle.cvm_list.proofs.Walk.{next_same}
 use Rattle.cvm_list.proofs.verifying.with_list.Goals as goal
 use Rattle.cvm_list.specs.Begun.{by_rules, holding, situation}
-use Rattle.cvm_list.specs.Cvm.{course, nothing_found, verdict}
+use Rattle.cvm_list.specs.Cvm.{course, nothing_found, verified_by_rules}
 use Rattle.cvm_list.specs.Rules.{rules_of}
 use Rattle.cvm_list.specs.declared.outcome.Found.{Found}
 use Rattle.cvm_list.specs.declared.rule.Rule.{Rule}
@@ -27,7 +27,7 @@ returns-clause-leads c =
     let kept = c.holding_rules-rules.result.items in
     let entries = c.as_slice-pins.result.now in
     let long : 10 ≤ length list = omega arith in
-    let f : Found → Situation → List Rule → List (List ℕ) → List (List ℕ) → Progress Verified = λ found s rules pins later. verdict found (course s.caps rules pins later) later in
+    let f : Found → Situation → List Rule → List (List ℕ) → List (List ℕ) → Progress Verified = λ found s rules pins later. verified_by_rules found (course s.caps rules pins later) later in
     let pins : p.pins ≡ entries = cc in
     next_same (by_rules rules s p) (f c.nothing_found.result made kept entries) c.walk.result
     (λ later. with_rules list s p later long

@@ -1,7 +1,7 @@
 use Rattle.std.proofs.Common.{rules, ap, ◌∙◌, ℤ, ◌+ℤ◌, SFits, to_z}
 use Rattle.std.proofs.lemmas.Int.{to_z-of_z}
 use Rattle.std.specs.Int.{w128}
-use Rattle.emv_top.specs.Generating.{capped}
+use Rattle.emv_top.specs.Generating.{capped_sum}
 use Rattle.emv_top.proofs.Booked.{booked_more}
 use Rattle.scenario.specs.Plan.{ScenarioData}
 use Rattle.emv_top.proofs.generating.booked.Goals as goal
@@ -16,5 +16,5 @@ loop-account-preserved g c = record {
       let sum_fits : SFits w128 c.saturating_add-sum.result = search rules in
       let paid_fits : SFits w128 c.paid.result = search rules in
       to_z-of_z w128 c.saturating_add-sum.result sum_fits ∙ c.saturating_add-sum.ensures
-      ∙ ap (λ (x : ℤ). capped (to_z w128 c.loop-account.sum-bits +ℤ x)) (to_z-of_z w128 c.paid.result paid_fits) ∙ step;
+      ∙ ap (λ (x : ℤ). capped_sum (to_z w128 c.loop-account.sum-bits +ℤ x)) (to_z-of_z w128 c.paid.result paid_fits) ∙ step;
 }

@@ -2,12 +2,12 @@ use Rattle.std.proofs.Common.{◌≡◌, length}
 use Rattle.std.specs.List.{flat_map}
 use Rattle.emv_ports.specs.Growth.{IsSoFar}
 use Rattle.txn_replay.specs.Reading.{without_end}
-use Rattle.emv_top.specs.Texts.{text_of}
+use Rattle.emv_top.specs.Texts.{text_of_lines}
 use Rattle.emv_top.proofs.lines.write_shown.Given as goal
 
 abbrev pub invariant-loop-line : goal.invariant-loop-line
 invariant-loop-line g l = record {
-  so_far : IsSoFar (g.K.Sink.held l.fn.sink) (g.K.Sink.held l.sink) (text_of (flat_map without_end l.left)) (text_of (flat_map without_end l.lines.items));
+  so_far : IsSoFar (g.K.Sink.held l.fn.sink) (g.K.Sink.held l.sink) (text_of_lines (flat_map without_end l.left)) (text_of_lines (flat_map without_end l.lines.items));
   calm : g.K.Sink.faults l.sink ≡ g.K.Sink.faults l.fn.sink;
 }
 

@@ -10,28 +10,28 @@ use Rattle.emv_top.proofs.reading.read_through.Goals as goal
 pub loop-world-init : goal.loop-world-init
 loop-world-init g c = record {
   far = begins (ReadReached c.args.scenario.now) (WorldStands c.args.world.now) (first_world c.args.scenario.now) (g.K.Sink.held c.args.sink.now) start c.requires.start;
-  told = c.requires.told;
+  told = c.requires.played.told;
   calm = refl;
 }
 
 pub loop-world-preserved : goal.loop-world-preserved
 loop-world-preserved g c = record {
-  far = read_more c.args.scenario.now c.loop-world.world c.read_turn.new.world c.loop-world.invariant.told c.read_turn.ensures.scenario _ _ _
-      c.loop-world-test.ensures c.loop-world.invariant.far c.in-Ok.ensures.ok;
-  told = c.read_turn.ensures.scenario ∙ c.loop-world.invariant.told;
-  calm = c.in-Ok.ensures.stop ∙ c.loop-world.invariant.calm;
+  far = read_more c.args.scenario.now c.loop-world.world c.read_turn.new.world c.loop-world.invariant.told c.in-Ok.ensures.happens.scenario _ _ _
+      c.loop-world-test.ensures c.loop-world.invariant.far c.in-Ok.ensures.happens.ok;
+  told = c.in-Ok.ensures.happens.scenario ∙ c.loop-world.invariant.told;
+  calm = c.in-Ok.ensures.happens.stop ∙ c.loop-world.invariant.calm;
 }
 
 pub loop-world-smaller : goal.loop-world-smaller
 loop-world-smaller g c =
-    read_nearer c.args.scenario.now c.loop-world.world c.read_turn.new.world c.loop-world.invariant.told c.read_turn.ensures.scenario _ _
+    read_nearer c.args.scenario.now c.loop-world.world c.read_turn.new.world c.loop-world.invariant.told c.in-Ok.ensures.happens.scenario _ _
     (g.K.Sink.held c.read_turn.new.sink)
-    c.loop-world-test.ensures c.loop-world.invariant.far c.requires.untorn.0 c.requires.untorn.1 c.requires.rules c.requires.some c.in-Ok.field-0 c.in-Ok.ensures.nearer c.in-Ok.ensures.idle
+    c.loop-world-test.ensures c.loop-world.invariant.far c.requires.untorn.0 c.requires.untorn.1 c.requires.played.rules c.requires.some c.in-Ok.field-0 c.in-Ok.ensures.nearer c.in-Ok.ensures.idle
 
 pub returns-in-Err-clause-err : goal.returns-in-Err-clause-err
 returns-in-Err-clause-err g c =
-    read_cut c.args.scenario.now c.loop-world.world c.read_turn.new.world c.loop-world.invariant.told c.read_turn.ensures.scenario _ _ _
-    c.loop-world-test.ensures c.loop-world.invariant.far c.in-Err.ensures.err
+    read_cut c.args.scenario.now c.loop-world.world c.read_turn.new.world c.loop-world.invariant.told c.in-Err.ensures.happens.scenario _ _ _
+    c.loop-world-test.ensures c.loop-world.invariant.far c.in-Err.ensures.happens.err
 
 pub write_reading-requires-clause-short : goal.write_reading-requires-clause-short
 write_reading-requires-clause-short g c =

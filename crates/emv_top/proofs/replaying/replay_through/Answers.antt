@@ -1,6 +1,6 @@
 use Rattle.std.proofs.Common.{refl}
 use Rattle.std.proofs.lemmas.Result.{on_ok_weaker, on_err_weaker}
-use Rattle.emv_top.specs.Courses.{Replays, all_lines}
+use Rattle.emv_top.specs.RunsSoFar.{Replays, all_lines}
 use Rattle.emv_top.proofs.Going.{begins, completes, stops_behind}
 use Rattle.txn_replay.specs.Run.{Reached, Scheduled, Finished, Run, closing, start}
 use Rattle.txn_replay.specs.World.{first_world}

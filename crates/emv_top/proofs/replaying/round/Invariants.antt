@@ -1,5 +1,5 @@
 use Rattle.std.proofs.Common.{◌≡◌, ◌⊎◌, ℕ, ◌-◌, ◌<◌, ◌≤◌, false, length}
-use Rattle.emv_top.specs.Courses.{Carries}
+use Rattle.emv_top.specs.RunsSoFar.{RunGoesOn}
 use Rattle.txn_replay.specs.Run.{Reached, Round, all_over}
 use Rattle.txn_replay.specs.Sound.{IsIdle}
 use Rattle.txn_replay.specs.World.{World}
@@ -8,7 +8,7 @@ use Rattle.emv_top.proofs.replaying.round.Given as goal
 
 abbrev pub invariant-loop-lane : goal.invariant-loop-lane
 invariant-loop-lane g l = record {
-  far : Carries l.fn.world l.world (g.K.Sink.held l.fn.sink) (g.K.Sink.held l.sink) (Reached l.scenario (Round 0)) (Reached l.scenario (Round l.lane));
+  far : RunGoesOn l.fn.world l.world (g.K.Sink.held l.fn.sink) (g.K.Sink.held l.sink) (Reached l.scenario (Round 0)) (Reached l.scenario (Round l.lane));
   told : l.world.scenario ≡ l.scenario;
   calm : g.K.Sink.faults l.sink ≡ g.K.Sink.faults l.fn.sink;
   within : l.lane ≤ length l.scenario.lanes;

@@ -1,4 +1,4 @@
-use Rattle.std.proofs.Common.{◌≡◌, ◌+◌, None, refl, sym, ap, ◌∙◌, slice_get, subst, arith}
+use Rattle.std.proofs.Common.{◌≡◌, ◌+◌, None, refl, rules, sym, ap, ◌∙◌, slice_get, subst, arith}
 use Rattle.emv_top.proofs.Going.{passes}
 use Rattle.emv_top.proofs.Replays.{onward_from, cut_off_from, stays}
 use Rattle.scenario.specs.Plan.{ScenarioData}
@@ -8,7 +8,7 @@ use Rattle.txn_replay.specs.Stored.{IsSettledTo}
 use Rattle.txn_replay.specs.World.{World}
 use Rattle.txn_replay.specs.declared.event.Event.TheVariants.{Settle}
 use Rattle.txn_replay.specs.Seen.{WorldStands}
-use Rattle.txn_replay.proofs.Through.{goes_through}
+use Rattle.txn_replay.proofs.StoreLaws.StoresEmptied.{goes_through}
 use Rattle.emv_top.proofs.replaying.settlement.Goals as goal
 
 pub settle-requires-clause-done : goal.settle-requires-clause-done
@@ -22,7 +22,7 @@ settle-requires-clause-next g c =
       world = far.world;
       stands = far.stands;
       through = subst (λ (t : ScenarioData). IsSettledTo t far.world c.loop-number.number) (sym c.loop-number.invariant.told)
-          (goes_through c.args.scenario.now c.loop-number.number far.count far.choices far.lines far.world c.requires.rules.tables.one_copy far.reached);
+          (goes_through c.args.scenario.now c.loop-number.number far.count far.choices far.lines far.world c.requires.played.rules.tables.one_copy far.reached);
     }
 
 pub loop-number-preserved : goal.loop-number-preserved
@@ -30,37 +30,52 @@ loop-number-preserved g c =
     let went = c.in-Ok-true.field-0-test in
     record {
       far = λ first far.
-          onward_from c.args.scenario.now (Settle c.loop-number.number) c.loop-number.world c.settle.new.world c.loop-number.invariant.told c.settle.ensures.scenario
+          onward_from c.args.scenario.now (Settle c.loop-number.number) c.loop-number.world c.settle.new.world c.loop-number.invariant.told c.in-Ok-true.ensures.happens.scenario
           (Settling c.loop-number.number) (Settling (c.loop-number.number + 1)) (λ n cs ch ls made w next reached stands there step. settling reached there.1 step) first _ _
           (c.in-Ok-true.ensures.there went)
           (λ n cs ls w reached stands.
-          c.in-Ok-true.ensures.ok w stands
-          (subst (λ (t : ScenarioData). IsSettledTo t w c.loop-number.number) (sym c.loop-number.invariant.told)
-          (goes_through c.args.scenario.now c.loop-number.number n cs ls w c.requires.rules.tables.one_copy reached)))
+          c.in-Ok-true.ensures.happens.ok w (
+            stands,
+            subst (λ (t : ScenarioData). IsSettledTo t w c.loop-number.number) (sym c.loop-number.invariant.told)
+                (goes_through c.args.scenario.now c.loop-number.number n cs ls w c.requires.played.rules.tables.one_copy reached),
+          ))
           (c.loop-number.invariant.far first far);
-      told = c.settle.ensures.scenario ∙ c.loop-number.invariant.told;
-      calm = c.in-Ok-true.ensures.stop ∙ c.loop-number.invariant.calm;
+      told = c.in-Ok-true.ensures.happens.scenario ∙ c.loop-number.invariant.told;
+      calm = c.in-Ok-true.ensures.happens.stop ∙ c.loop-number.invariant.calm;
       done = c.settle.ensures.done ∙ c.loop-number.invariant.done;
       few = omega (arith, c.in-Ok-true.ensures.few went);
     }
 
-pub returns-in-Ok-false-clause-ok : goal.returns-in-Ok-false-clause-ok
-returns-in-Ok-false-clause-ok g c = λ first far.
+pub returns-in-Ok-false-clause-passage : goal.returns-in-Ok-false-clause-passage
+returns-in-Ok-false-clause-passage g c =
     let went = c.in-Ok-false.field-0-test in
     let past = subst (λ (t : ScenarioData). (w : World) → WorldStands c.loop-number.world w → slice_get (settlements t w) c.loop-number.number ≡ None)
     c.loop-number.invariant.told (c.in-Ok-false.ensures.past went) in
-    stays (Auditing 0) c.args.scenario.now c.loop-number.world c.settle.new.world first _ _ (c.in-Ok-false.ensures.still went).0
-    (ap g.K.Sink.held (c.in-Ok-false.ensures.still went).1)
-    (passes (Reached c.args.scenario.now (Settling c.loop-number.number)) (Reached c.args.scenario.now (Auditing 0)) (WorldStands c.loop-number.world) first _
-    (λ n cs ls w reached stands. audit reached (past w stands)) (c.loop-number.invariant.far first far))
+    record {
+      ok = λ first far.
+          stays (Auditing 0) c.args.scenario.now c.loop-number.world c.settle.new.world first _ _ (c.in-Ok-false.ensures.still went).0
+          (ap g.K.Sink.held (c.in-Ok-false.ensures.still went).1)
+          (passes (Reached c.args.scenario.now (Settling c.loop-number.number)) (Reached c.args.scenario.now (Auditing 0)) (WorldStands c.loop-number.world) first _
+          (λ n cs ls w reached stands. audit reached (past w stands)) (c.loop-number.invariant.far first far));
+      err = search rules;
+      told = c.in-Ok-false.ensures.happens.scenario ∙ c.loop-number.invariant.told;
+      stop = c.in-Ok-false.ensures.happens.stop ∙ c.loop-number.invariant.calm;
+    }
 
-pub returns-in-Err-clause-err : goal.returns-in-Err-clause-err
-returns-in-Err-clause-err g c = λ first far.
-    cut_off_from c.args.scenario.now (Settle c.loop-number.number) c.loop-number.world c.settle.new.world c.loop-number.invariant.told c.settle.ensures.scenario
-    (Settling c.loop-number.number) (Settling (c.loop-number.number + 1)) (λ n cs ch ls made w next reached stands there step. settling reached there.1 step) first _ _
-    (λ w. refl) (λ w. refl)
-    (λ n cs ls w reached stands.
-    c.in-Err.ensures.err w stands
-    (subst (λ (t : ScenarioData). IsSettledTo t w c.loop-number.number) (sym c.loop-number.invariant.told)
-    (goes_through c.args.scenario.now c.loop-number.number n cs ls w c.requires.rules.tables.one_copy reached)))
-    (c.loop-number.invariant.far first far)
+pub returns-in-Err-clause-passage : goal.returns-in-Err-clause-passage
+returns-in-Err-clause-passage g c = record {
+  ok = search rules;
+  err = λ first far.
+      cut_off_from c.args.scenario.now (Settle c.loop-number.number) c.loop-number.world c.settle.new.world c.loop-number.invariant.told c.in-Err.ensures.happens.scenario
+      (Settling c.loop-number.number) (Settling (c.loop-number.number + 1)) (λ n cs ch ls made w next reached stands there step. settling reached there.1 step) first _ _
+      (λ w. refl) (λ w. refl)
+      (λ n cs ls w reached stands.
+      c.in-Err.ensures.happens.err w (
+        stands,
+        subst (λ (t : ScenarioData). IsSettledTo t w c.loop-number.number) (sym c.loop-number.invariant.told)
+            (goes_through c.args.scenario.now c.loop-number.number n cs ls w c.requires.played.rules.tables.one_copy reached),
+      ))
+      (c.loop-number.invariant.far first far);
+  told = c.in-Err.ensures.happens.scenario ∙ c.loop-number.invariant.told;
+  stop = search rules;
+}

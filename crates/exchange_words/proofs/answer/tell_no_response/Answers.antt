@@ -1,7 +1,7 @@
 use Rattle.std.proofs.Common.{◌≡◌, true, false, nat_lt, length, codes, arith}
 use Rattle.std.proofs.lemmas.Bool.Decides.{nat_tests}
-use Rattle.word_lines.specs.Pieces.{line, text}
-use Rattle.word_lines.proofs.Telling.{tells_then}
+use Rattle.report_lines.specs.Pieces.{line, text}
+use Rattle.report_lines.proofs.Telling.{tells_then}
 use Rattle.exchange_words.proofs.answer.tell_no_response.Goals as goal
 
 pub returns-then-answer-lt2 : goal.returns-then-answer-lt2

@@ -1,7 +1,7 @@
 use Rattle.std.proofs.Common.{◌≡◌, true, codes, is_some, sym, ap, ◌∙◌}
 use Rattle.ber_tlv.specs.Left.{fault_of, items_of}
-use Rattle.word_lines.specs.Pieces.{line, text}
-use Rattle.word_lines.proofs.Telling.{tells_then}
+use Rattle.report_lines.specs.Pieces.{line, text}
+use Rattle.report_lines.proofs.Telling.{tells_then}
 use Rattle.exchange_words.proofs.body.tell_body.Goals as goal
 
 pub returns-then-is_some : goal.returns-then-is_some

@@ -1,6 +1,6 @@
 use Rattle.std.proofs.Common.{◌++◌, codes}
-use Rattle.word_lines.specs.Pieces.{text, number}
-use Rattle.word_lines.proofs.Telling.{tells_then}
+use Rattle.report_lines.specs.Pieces.{text, number}
+use Rattle.report_lines.proofs.Telling.{tells_then}
 use Rattle.exchange_words.proofs.body.tell_limits.Goals as goal
 
 pub returns-in-Some-upper : goal.returns-in-Some-upper

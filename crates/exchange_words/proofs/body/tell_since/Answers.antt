@@ -1,6 +1,6 @@
 use Rattle.std.proofs.Common.{◌≡◌, ◌++◌, ◌-◌, codes, arith}
-use Rattle.word_lines.specs.Pieces.{line, text, number}
-use Rattle.word_lines.proofs.Telling.{tells_then}
+use Rattle.report_lines.specs.Pieces.{line, text, number}
+use Rattle.report_lines.proofs.Telling.{tells_then}
 use Rattle.exchange_words.specs.Answers.{limits_words}
 use Rattle.exchange_words.proofs.body.tell_since.Goals as goal
 

@@ -1,8 +1,8 @@
 use Rattle.std.proofs.Common.{List, ℕ, Option, codes, subst}
-use Rattle.explain_words.specs.declared.names.Form.{Form}
+use Rattle.value_words.specs.declared.names.Form.{Form}
 use Rattle.object_words.specs.Objects.{name_of}
-use Rattle.word_lines.specs.Pieces.{Tells, text}
-use Rattle.word_lines.proofs.Telling.{tells_then, tells_nothing}
+use Rattle.report_lines.specs.Pieces.{Tells, text}
+use Rattle.report_lines.proofs.Telling.{tells_then, tells_nothing}
 use Rattle.exchange_words.specs.Commands.{name_words}
 use Rattle.exchange_words.proofs.command.tell_name.Goals as goal
 

@@ -1,7 +1,7 @@
 use Rattle.std.proofs.Common.{List, codes, sym, subst, ◌∙◌}
-use Rattle.word_lines.specs.Pieces.{Piece, Tells, text}
-use Rattle.word_lines.proofs.Telling.{tells_then}
-use Rattle.list_words.specs.Plain.{or_nothing}
+use Rattle.report_lines.specs.Pieces.{Piece, Tells, text}
+use Rattle.report_lines.proofs.Telling.{tells_then}
+use Rattle.value_words.specs.Plain.{or_nothing}
 use Rattle.object_words.specs.Commands.{script_command_words}
 use Rattle.exchange_words.proofs.Scripts.{script-named}
 use Rattle.exchange_words.proofs.command.tell_other.Goals as goal

@@ -1,8 +1,8 @@
 use Rattle.std.proofs.Common.{◌-◌, List, length, take, drop, codes, sym, subst, ◌∙◌, arith}
-use Rattle.word_lines.specs.Pieces.{Piece, Tells, text}
-use Rattle.word_lines.proofs.Telling.{tells_then}
-use Rattle.list_words.specs.Digits.{digits_words}
-use Rattle.list_words.specs.Plain.{or_nothing}
+use Rattle.report_lines.specs.Pieces.{Piece, Tells, text}
+use Rattle.report_lines.proofs.Telling.{tells_then}
+use Rattle.value_words.specs.Digits.{digits_words}
+use Rattle.value_words.specs.Plain.{or_nothing}
 use Rattle.exchange_words.proofs.Pins.{pin-told}
 use Rattle.exchange_words.proofs.command.tell_pin.Goals as goal
 

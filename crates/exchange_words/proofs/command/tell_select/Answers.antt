@@ -1,7 +1,7 @@
 use Rattle.std.proofs.Common.{◌≡◌, ◌++◌, ◌==◌, true, codes, arith}
 use Rattle.std.proofs.lemmas.Bool.Decides.{nat_tests}
-use Rattle.word_lines.specs.Pieces.{line, text}
-use Rattle.word_lines.proofs.Telling.{tells_then}
+use Rattle.report_lines.specs.Pieces.{line, text}
+use Rattle.report_lines.proofs.Telling.{tells_then}
 use Rattle.exchange_words.specs.Commands.{selected_name}
 use Rattle.exchange_words.proofs.command.tell_select.Goals as goal
 

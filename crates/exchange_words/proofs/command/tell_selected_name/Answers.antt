@@ -1,7 +1,7 @@
 use Rattle.std.proofs.Common.{◌≡◌, List, ℕ, true, codes, sym, ap, ◌∙◌}
 use Rattle.std.specs.Str.{bytes_eq}
-use Rattle.word_lines.specs.Pieces.{text}
-use Rattle.word_lines.proofs.Telling.{tells_then}
+use Rattle.report_lines.specs.Pieces.{text}
+use Rattle.report_lines.proofs.Telling.{tells_then}
 use Rattle.exchange_words.proofs.command.tell_selected_name.Goals as goal
 
 pub returns-then-eq : goal.returns-then-eq

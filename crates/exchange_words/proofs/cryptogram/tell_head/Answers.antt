@@ -1,7 +1,7 @@
 use Rattle.std.proofs.Common.{◌≡◌, ◌==◌, true, false, codes, arith}
 use Rattle.std.proofs.lemmas.Bool.Decides.{nat_tests}
-use Rattle.word_lines.specs.Pieces.{line, text}
-use Rattle.word_lines.proofs.Telling.{tells_then}
+use Rattle.report_lines.specs.Pieces.{line, text}
+use Rattle.report_lines.proofs.Telling.{tells_then}
 use Rattle.exchange_words.proofs.cryptogram.tell_head.Goals as goal
 
 pub returns-then-lane-eq0 : goal.returns-then-lane-eq0

@@ -1,12 +1,12 @@
 use Rattle.std.proofs.Common.{List, ℕ, sym, ap, ◌∙◌, arith}
 use Rattle.object_words.specs.Leading.{leading_behind}
-use Rattle.exchange_words.specs.Learned.{found_in}
+use Rattle.exchange_words.specs.Learned.{value_found_in}
 use Rattle.exchange_words.proofs.Deep.{found_within, deep-each}
 use Rattle.exchange_words.proofs.learn.+find_deep.Goals as goal
 
 pub loop-item-init : goal.loop-item-init
 loop-item-init t c =
-    let found = found_in c.args.tag.0 (found_within c.args.more c.args.tag.0) in
+    let found = value_found_in c.args.tag.0 (found_within c.args.more c.args.tag.0) in
     record {
       within = omega arith;
       left = deep-each c.args.more c.args.tag.0 c.args.bytes.now

@@ -1,6 +1,6 @@
 use Rattle.std.proofs.Common.{◌≡◌, ◌==◌, ℕ, List, Some, false, length, refl, sym, ap, ◌∙◌, arith}
 use Rattle.std.proofs.lemmas.Bool.Decides.{nat_tests}
-use Rattle.list_words.specs.Plain.{number_in}
+use Rattle.value_words.specs.Plain.{binary_number}
 use Rattle.explain.proofs.Names.{code_read, code_other, no_code}
 use Rattle.explain.proofs.options.read_code.Goals as goal
 
@@ -9,7 +9,7 @@ returns-in_err-bytes c = rw c.from_residual.ensures (sym (no_code c.args.text.no
 
 pub returns-then-len-eq5 : goal.returns-then-len-eq5
 returns-then-len-eq5 c =
-    ap (λ (n : ℕ). Some n) (c.number_in.ensures ∙ ap (λ (bytes : List ℕ). number_in bytes) c.as_slice.ensures.value)
+    ap (λ (n : ℕ). Some n) (c.number_in.ensures ∙ ap (λ (bytes : List ℕ). binary_number bytes) c.as_slice.ensures.value)
     ∙ sym (code_read c.args.text.now c.in_ok-bytes.bytes.items c.in_ok-bytes.ensures.some (omega arith))
 
 pub returns-else-len-eq5 : goal.returns-else-len-eq5

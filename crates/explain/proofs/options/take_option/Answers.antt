@@ -2,7 +2,7 @@ use Rattle.std.proofs.Common.{Option, map, string_bytes, sym, ap, ◌∙◌}
 use Rattle.narrator.specs.State.{Manner}
 use Rattle.explain.specs.Grammar.{◌>>=◌}
 use Rattle.explain.specs.Taking.{options_behind}
-use Rattle.explain.specs.Told.{manner_in}
+use Rattle.explain.specs.ToldLines.{manner_in}
 use Rattle.explain.proofs.Taking.{behind_alone, refuses_behind, refuses_as}
 use Rattle.explain.proofs.options.take_option.Goals as goal
 

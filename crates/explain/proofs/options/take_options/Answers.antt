@@ -1,5 +1,5 @@
 use Rattle.std.proofs.Common.{map, string_bytes, ◌∙◌, arith}
-use Rattle.explain.specs.Told.{manner_in}
+use Rattle.explain.specs.ToldLines.{manner_in}
 use Rattle.explain.proofs.Taking.{behind_end, no_words}
 use Rattle.explain.proofs.options.take_options.Goals as goal
 

@@ -1,6 +1,6 @@
 use Rattle.std.proofs.Common.{◌≡◌, length, map, string_bytes}
 use Rattle.explain.specs.Taking.{options_behind}
-use Rattle.explain.specs.Told.{manner_in}
+use Rattle.explain.specs.ToldLines.{manner_in}
 use Rattle.explain.proofs.options.take_options.Given as goal
 
 abbrev pub invariant-loop-left : goal.invariant-loop-left

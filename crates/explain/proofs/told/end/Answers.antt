@@ -1,4 +1,4 @@
-use Rattle.explain.specs.Course.{way_in, stand_of}
+use Rattle.explain.specs.ReportSoFar.{way_in, stand_of}
 use Rattle.explain.proofs.Coming.{ended_at, stopped_at}
 use Rattle.std.proofs.lemmas.Result.{on_ok_weaker, on_err_weaker}
 use Rattle.explain.proofs.told.end.Goals as goal

@@ -1,4 +1,4 @@
-use Rattle.explain.specs.Course.{way_in, stand_of}
+use Rattle.explain.specs.ReportSoFar.{way_in, stand_of}
 use Rattle.explain.proofs.Coming.{so_far_long_at, stopped_long_at}
 use Rattle.explain.proofs.told.end_long.Goals as goal
 

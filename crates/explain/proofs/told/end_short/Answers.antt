@@ -1,5 +1,5 @@
 use Rattle.narrator.specs.State.{seen_state}
-use Rattle.explain.specs.Course.{way_in, stand_of}
+use Rattle.explain.specs.ReportSoFar.{way_in, stand_of}
 use Rattle.explain.proofs.Coming.{not_long, so_far_short_told, stopped_short_told, stopped_untold}
 use Rattle.std.proofs.Common.{◌∙◌}
 use Rattle.explain.proofs.told.end_short.Goals as goal

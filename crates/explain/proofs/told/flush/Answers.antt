@@ -1,7 +1,7 @@
 use Rattle.std.proofs.Common.{List, ℕ, subst}
 use Rattle.emv_ports.specs.Growth.{AppendsFront}
-use Rattle.explain.specs.Course.{way_in, stand_of}
-use Rattle.explain.specs.Told.{rest_of}
+use Rattle.explain.specs.ReportSoFar.{way_in, stand_of}
+use Rattle.explain.specs.ToldLines.{rest_behind_lines}
 use Rattle.explain.proofs.Coming.{so_far_flush_at}
 use Rattle.explain.proofs.told.flush.Goals as goal
 
@@ -12,4 +12,4 @@ returns-in-Ok-clause-ok g c = λ seen first s.
 
 pub returns-in-Err-clause-front : goal.returns-in-Err-clause-front
 returns-in-Err-clause-front g c =
-    subst (λ (t : List ℕ). AppendsFront (g.K.Sink.held c.args.sink.now) (g.K.Sink.held c.put_rest.new.sink) (rest_of c.args.teller.now.all t)) c.as_slice.ensures.value c.in-Err.ensures.front
+    subst (λ (t : List ℕ). AppendsFront (g.K.Sink.held c.args.sink.now) (g.K.Sink.held c.put_rest.new.sink) (rest_behind_lines c.args.teller.now.all t)) c.as_slice.ensures.value c.in-Err.ensures.front

@@ -1,4 +1,4 @@
-use Rattle.explain.specs.Course.{way_in, stand_of}
+use Rattle.explain.specs.ReportSoFar.{way_in, stand_of}
 use Rattle.explain.proofs.Coming.{so_far_push_at, stopped_push}
 use Rattle.explain.proofs.told.take_inner.Goals as goal
 

@@ -1,8 +1,8 @@
 use Rattle.std.proofs.Common.{ℕ, subst}
 use Rattle.emv_ports.specs.Causes.{Rose}
-use Rattle.explain.specs.Course.{way_in, stand_of}
+use Rattle.explain.specs.ReportSoFar.{way_in, stand_of}
 use Rattle.narrator.specs.State.{seen_state}
-use Rattle.explain.specs.Told.{Way, Explained, BrokenOff}
+use Rattle.explain.specs.ToldLines.{Way, Explained, BrokenOff}
 use Rattle.explain.proofs.Reading.{so_far_begin, explained, explained_front, broken_some}
 use Rattle.explain.proofs.top.explain.Goals as goal
 

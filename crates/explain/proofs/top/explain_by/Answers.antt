@@ -1,5 +1,5 @@
 use Rattle.std.proofs.Common.{OnOk, OnErr, subst}
-use Rattle.explain.specs.Told.{Way, way_of, Explained, BrokenOff}
+use Rattle.explain.specs.ToldLines.{Way, way_of, Explained, BrokenOff}
 use Rattle.explain.proofs.Reading.{broken_start}
 use Rattle.explain.proofs.top.explain_by.Goals as goal
 

@@ -2,9 +2,9 @@ use Rattle.std.proofs.Common.{ℕ, ◌≡◌, ◌∙◌, take, refl, sym, subst,
 use Rattle.std.specs.Io.KnownBytes.{Consumes}
 use Rattle.std.proofs.lemmas.List.{length-take-le}
 use Rattle.emv_ports.specs.Causes.{Rose}
-use Rattle.explain.specs.Course.{way_in, stand_of}
+use Rattle.explain.specs.ReportSoFar.{way_in, stand_of}
 use Rattle.explain.specs.Reading.{ReadSome}
-use Rattle.explain.specs.Told.{Way}
+use Rattle.explain.specs.ToldLines.{Way}
 use Rattle.explain.proofs.Reading.{IsReading, reading_start, reading_more, reading_end, reading_full, reading_broken, reading_stopped}
 use Rattle.explain.proofs.top.read_through.Goals as goal
 

@@ -1,5 +1,5 @@
 use Rattle.std.proofs.Common.{map, string_bytes, refl, inr}
-use Rattle.explain.specs.Told.{manner_in}
+use Rattle.explain.specs.ToldLines.{manner_in}
 use Rattle.explain.proofs.Taking.{asks_whole}
 use Rattle.explain.proofs.top.run.Goals as goal
 

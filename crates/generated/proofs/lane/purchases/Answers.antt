@@ -1,18 +1,18 @@
 use Rattle.std.proofs.Common.{◌≡◌, ◌+◌, refl, sym, ap, ◌∙◌}
 use Rattle.generated.proofs.Lanes.{purchase_taken, purchase_passed}
 use Rattle.generated.proofs.Numbers.{number_more}
-use Rattle.generated.specs.Numbers.{next_number, number_at}
+use Rattle.generated.specs.Numbers.{next_generated, generated_number}
 use Rattle.generated.proofs.lane.purchases.Goals as goal
 use Rattle.generated.proofs.lane.purchases.Goals.{then-k-lane+in_ok-planned+in_ok-push, else-k-lane}
 
 pub loop-k-init : goal.loop-k-init
-unfolding number_at
+unfolding generated_number
 loop-k-init c = record { number = refl; purchases = c.in_ok-purchases.ensures.items }
 
 pub loop-k-preserved : goal.loop-k-preserved
 loop-k-preserved c =
-    let number : c.next_number-x.result ≡ number_at c.args.count (c.loop-k.k + 1) =
-    c.next_number-x.ensures ∙ ap next_number c.loop-k.invariant.number ∙ sym (number_more c.args.count c.loop-k.k) in
+    let number : c.next_number-x.result ≡ generated_number c.args.count (c.loop-k.k + 1) =
+    c.next_number-x.ensures ∙ ap next_generated c.loop-k.invariant.number ∙ sym (number_more c.args.count c.loop-k.k) in
     record {
       number = number;
       purchases =

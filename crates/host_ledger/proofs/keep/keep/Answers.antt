@@ -2,7 +2,7 @@ use Rattle.std.proofs.Common.{arith, ap, ◌∙◌, ◌≡◌, ◌≤◌, ◌*�
 use Rattle.std.proofs.lemmas.Int.{ints}
 use Rattle.std.proofs.lemmas.List.Elements.{recursion_from_All}
 use Rattle.emv_dict.specs.Settings.{most_amount}
-use Rattle.host_ledger.specs.Account.{opened}
+use Rattle.host_ledger.specs.Account.{with_opening_balance}
 use Rattle.host_ledger.specs.Entries.{entry_at, taken_at, taken_from}
 use Rattle.host_ledger.proofs.Balances.{opened_same, balanced_again}
 use Rattle.host_ledger.proofs.Sums.{taken_small, found_small, sum_small}
@@ -30,7 +30,7 @@ moved-balance-requires-clause-low c =
 pub returns-clause-opened : goal.returns-clause-opened
 returns-clause-opened c =
     let known = rw (← c.copy-pan.ensures) at c.requires.known in
-    ap (map opened) c.in-Ok.ensures.ok ∙ opened_same c.copy-pan.result _ c.args.account c.args.accounts.now known refl
+    ap (map with_opening_balance) c.in-Ok.ensures.ok ∙ opened_same c.copy-pan.result _ c.args.account c.args.accounts.now known refl
 
 pub returns-clause-balanced : goal.returns-clause-balanced
 returns-clause-balanced c =

@@ -4,8 +4,8 @@ use Rattle.auth_message.specs.Reply.{ReplyData}
 use Rattle.auth_message.specs.Spelling.{spelled}
 use Rattle.iso_message.specs.Items.{reply_items}
 use Rattle.iso_message.specs.Layout.{bitmap, reply_numbers, reply_type}
-use Rattle.iso_message.specs.Spelling.{reply_bytes}
-use Rattle.iso_message.specs.Text.{counted}
+use Rattle.iso_message.specs.Spelling.{iso_reply_bytes}
+use Rattle.iso_message.specs.Text.{with_length}
 use Rattle.iso_message.proofs.Joined.{reply_joined}
 use Rattle.iso_message.proofs.Replies.{reply_rest, reply_split, reply_again, apart}
 use Rattle.iso_message.proofs.write.write_iso_reply.Goals as goal
@@ -27,8 +27,8 @@ returns-clause-exact c =
       c.append.ensures.items,
       c.reply_type.ensures,
       c.clear.ensures,
-    ) (reply_joined (reply_type c.args.kind) (bitmap reply_numbers) r.code (counted 4 (spelled (reply_items r.auth) ++ r.scripts))) in
-    whole ∙ sym (reply_split c.args.kind r) ∙ ap (reply_bytes c.args.kind) c.reply.view_is
+    ) (reply_joined (reply_type c.args.kind) (bitmap reply_numbers) r.code (with_length 4 (spelled (reply_items r.auth) ++ r.scripts))) in
+    whole ∙ sym (reply_split c.args.kind r) ∙ ap (iso_reply_bytes c.args.kind) c.reply.view_is
 
 pub returns-clause-read_again : goal.returns-clause-read_again
 returns-clause-read_again c =

@@ -3,8 +3,8 @@ use Rattle.auth_message.specs.Spelling.{optional, spelled}
 use Rattle.auth_message.proofs.Again.{ReversalSizes}
 use Rattle.iso_message.specs.Items.{reversal_items}
 use Rattle.iso_message.specs.Layout.{bitmap, reversal_numbers}
-use Rattle.iso_message.specs.Spelling.{account_field, amount_field, audit_field, reference_field, terminal_field, currency_field}
-use Rattle.iso_message.specs.Text.{counted}
+use Rattle.iso_message.specs.Spelling.{account_number_field, amount_field, audit_field, reference_field, terminal_field, currency_field}
+use Rattle.iso_message.specs.Text.{with_length}
 use Rattle.iso_message.proofs.Calls.{reversal_rest, reversal_split, reversal_again}
 use Rattle.iso_message.proofs.Joined.{eight_joined, reversal_items_joined}
 use Rattle.iso_message.proofs.write.write_reversal.Goals as goal
@@ -27,7 +27,7 @@ returns-clause-exact c =
       c.reversal_bits.ensures,
       c.append.ensures.items,
       c.clear.ensures,
-    ) (eight_joined (codes "0400") (bitmap reversal_numbers) (account_field f.pan).1 (amount_field f.t9f02).1 (audit_field f.t9f36).1 (reference_field f.t9f36).1 f.t8a (terminal_field f.t9f1c).1 (currency_field f.t5f2a).1 (counted 4 (spelled (reversal_items f)))) in
+    ) (eight_joined (codes "0400") (bitmap reversal_numbers) (account_number_field f.pan).1 (amount_field f.t9f02).1 (audit_field f.t9f36).1 (reference_field f.t9f36).1 f.t8a (terminal_field f.t9f1c).1 (currency_field f.t5f2a).1 (with_length 4 (spelled (reversal_items f)))) in
     whole ∙ sym (reversal_split f)
 
 pub returns-clause-read_again : goal.returns-clause-read_again

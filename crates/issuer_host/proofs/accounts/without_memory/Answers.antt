@@ -5,7 +5,7 @@ use Rattle.std.specs.Str.{bytes_eq}
 use Rattle.std.proofs.lemmas.List.{length-map}
 use Rattle.std.proofs.lemmas.Option.{slice_get_read}
 use Rattle.issuer_host.specs.Account.{AccountData}
-use Rattle.issuer_host.specs.Holds.{opening}
+use Rattle.issuer_host.specs.Holds.{opening_balance}
 use Rattle.issuer_host.proofs.Hosting.{account_repeats, account_passed}
 use Rattle.issuer_host.proofs.accounts.without_memory.Goals as goal
 
@@ -25,6 +25,6 @@ loop-place-preserved c =
 
 pub returns : goal.returns
 returns c =
-    let count : length (map opening c.args.accounts.now) ≡ length c.args.accounts.now = length-map c.args.accounts.now opening in
+    let count : length (map opening_balance c.args.accounts.now) ≡ length c.args.accounts.now = length-map c.args.accounts.now opening_balance in
     let end : length c.args.accounts.now ≤ c.loop-place.place = omega (arith, c.loop-place-test.false) in
     λ k lt. c.loop-place.invariant k (omega arith)

@@ -1,7 +1,7 @@
 use Rattle.std.proofs.Common.{◌≡◌, ap, ◌∙◌}
 use Rattle.std.specs.Prelude.{option_map}
-use Rattle.issuer_host.specs.Balance.{account_of}
-use Rattle.issuer_host.specs.Holds.{place_in, account_in}
+use Rattle.issuer_host.specs.Balance.{account_with_pan}
+use Rattle.issuer_host.specs.Holds.{account_place, account_in}
 use Rattle.issuer_host.specs.Reply.{reversal_reply, said_bytes}
 use Rattle.issuer_host.proofs.Places.{account_found}
 use Rattle.issuer_host.proofs.answering.reply_to_reversal.Goals as goal
@@ -9,15 +9,15 @@ use Rattle.issuer_host.proofs.answering.reply_to_reversal.Goals as goal
 pub returns-clause-bytes : goal.returns-clause-bytes
 returns-clause-bytes c =
     let f = c.args.fields.now in
-    let place : c.place_of-place.result ≡ place_in c.args.fields.now.pan c.args.accounts.now = c.place_of-place.ensures in
-    let found : option_map (λ a. a.now) c.account_at-account.result ≡ account_of c.args.fields.now.pan c.args.accounts.now =
+    let place : c.place_of-place.result ≡ account_place c.args.fields.now.pan c.args.accounts.now = c.place_of-place.ensures in
+    let found : option_map (λ a. a.now) c.account_at-account.result ≡ account_with_pan c.args.fields.now.pan c.args.accounts.now =
     c.account_at-account.ensures ∙ ap (account_in c.args.accounts.now) place ∙ account_found c.args.fields.now.pan c.args.accounts.now in
     c.reversal_reply.ensures.bytes ∙ ap (λ a. said_bytes (reversal_reply a c.args.records.now.books f)) found
 
 pub returns-clause-code : goal.returns-clause-code
 returns-clause-code c =
     let f = c.args.fields.now in
-    let place : c.place_of-place.result ≡ place_in c.args.fields.now.pan c.args.accounts.now = c.place_of-place.ensures in
-    let found : option_map (λ a. a.now) c.account_at-account.result ≡ account_of c.args.fields.now.pan c.args.accounts.now =
+    let place : c.place_of-place.result ≡ account_place c.args.fields.now.pan c.args.accounts.now = c.place_of-place.ensures in
+    let found : option_map (λ a. a.now) c.account_at-account.result ≡ account_with_pan c.args.fields.now.pan c.args.accounts.now =
     c.account_at-account.ensures ∙ ap (account_in c.args.accounts.now) place ∙ account_found c.args.fields.now.pan c.args.accounts.now in
     c.reversal_reply.ensures.code ∙ ap (λ a. (reversal_reply a c.args.records.now.books f).code) found

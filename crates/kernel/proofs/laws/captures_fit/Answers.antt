@@ -2,4 +2,4 @@ use Rattle.kernel.proofs.Telling.{captures_fit}
 use Rattle.kernel.proofs.laws.captures_fit.Goals as goal
 
 pub returns : goal.returns
-returns c deal replies end ends = captures_fit deal replies end ends
+returns c outset replies end ends = captures_fit outset replies end ends

@@ -2,4 +2,4 @@ use Rattle.kernel.proofs.Growing.{deeds_grow}
 use Rattle.kernel.proofs.laws.deeds_grow.Goals as goal
 
 pub returns : goal.returns
-returns c deal replies more = deeds_grow deal replies more
+returns c outset replies more = deeds_grow outset replies more

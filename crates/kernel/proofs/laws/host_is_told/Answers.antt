@@ -2,4 +2,4 @@ use Rattle.kernel.proofs.Telling.{host_told}
 use Rattle.kernel.proofs.laws.host_is_told.Goals as goal
 
 pub returns : goal.returns
-returns c deal replies = host_told deal replies
+returns c outset replies = host_told outset replies

@@ -2,4 +2,4 @@ use Rattle.kernel.proofs.Restricting.{reading_restricts}
 use Rattle.kernel.proofs.laws.reading_restricts.Goals as goal
 
 pub returns : goal.returns
-returns c deal replies = reading_restricts deal replies
+returns c outset replies = reading_restricts outset replies

@@ -2,4 +2,4 @@ use Rattle.kernel.proofs.Turning.{replies_turn}
 use Rattle.kernel.proofs.laws.replies_turn.Goals as goal
 
 pub returns : goal.returns
-returns c deal replies reply = replies_turn deal replies reply
+returns c outset replies reply = replies_turn outset replies reply

@@ -1,12 +1,12 @@
 use Rattle.std.proofs.Common.{sym}
 use Rattle.kernel.proofs.Requested.{requested}
 use Rattle.kernel.proofs.online.put_objects.Goals as goal
-use Rattle.kernel.specs.Trades.{trade_of}
+use Rattle.kernel.specs.Transactions.{transaction_of}
 
 pub returns-clause-request : goal.returns-clause-request
 returns-clause-request c =
     rw c.put_terminal.ensures
-    (requested (trade_of c.args.transaction.now).deal c.args.transaction.now.row.now c.args.moment.now
+    (requested (transaction_of c.args.transaction.now).outset c.args.transaction.now.row.now c.args.state_so_far.now
     (record {
       id = rw (sym c.settings.view_is) c.has_length.ensures;
       country = rw (sym c.settings.view_is) c.has_length-2.ensures;

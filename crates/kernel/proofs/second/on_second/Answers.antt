@@ -7,25 +7,25 @@ use Rattle.kernel.proofs.second.on_second.Goals as goal
 use Rattle.kernel.specs.Dialogue.{scripts_behind, decision}
 use Rattle.kernel.specs.Stages.{generating, behind_if}
 use Rattle.online_step.specs.declared.ac.GenerateAc.TheVariants as generate
-use Rattle.terminal_state.specs.Marks.{HasSecond}
+use Rattle.terminal_state.specs.StepResults.{HasSecond}
 
 pub returns-in-Ok-clause-stands : goal.returns-in-Ok-clause-stands
-returns-in-Ok-clause-stands c = λ trade before now rest stands.
+returns-in-Ok-clause-stands c = λ transaction before now rest stands.
     let course = generating c.args.table.now.command.items c.args.state.asked generate.Second in
-    c.finish.ensures.stands trade stands.marks now _
-    (begins_next c.args.table.now c.args.table.now trade.card step.Second stands.marks stands.marks now (λ later. course (c.args.reply.now ∷ later))
-    (λ ac. scripts_behind (decision c.args.state.outcome ac.kind) (behind_if c.args.state.outcome c.args.table.now.reply.scripts) (HasSecond ac ∷ stands.marks)) c.in-Ok.ac _ stands.tied refl
-    (begins_taken c.args.table.now trade.card step.Second stands.marks before now course
-    (λ ac. scripts_behind (decision c.args.state.outcome ac.kind) (behind_if c.args.state.outcome c.args.table.now.reply.scripts) (HasSecond ac ∷ stands.marks))
+    c.finish.ensures.stands transaction stands.steps_done now _
+    (begins_next c.args.table.now c.args.table.now transaction.card step.Second stands.steps_done stands.steps_done now (λ later. course (c.args.reply.now ∷ later))
+    (λ ac. scripts_behind (decision c.args.state.outcome ac.kind) (behind_if c.args.state.outcome c.args.table.now.reply.scripts) (HasSecond ac ∷ stands.steps_done)) c.in-Ok.ac _ stands.tied refl
+    (begins_taken c.args.table.now transaction.card step.Second stands.steps_done before now course
+    (λ ac. scripts_behind (decision c.args.state.outcome ac.kind) (behind_if c.args.state.outcome c.args.table.now.reply.scripts) (HasSecond ac ∷ stands.steps_done))
     c.args.table.now.command.items rest stands.passed stands.tied stands.read refl c.args.reply.now)
     (λ later. ac_given c.args.reply.now c.args.state.asked generate.Second c.in-Ok.ac later c.in-Ok.ensures.exact))
 
 pub returns-in-Err-clause-stands : goal.returns-in-Err-clause-stands
-returns-in-Err-clause-stands c = λ trade before now rest stands.
+returns-in-Err-clause-stands c = λ transaction before now rest stands.
     let course = generating c.args.table.now.command.items c.args.state.asked generate.Second in
-    trading_stopped c.args.table.now c.args.table.now trade step.Second stands.marks now (λ later. course (c.args.reply.now ∷ later))
-    (λ ac. scripts_behind (decision c.args.state.outcome ac.kind) (behind_if c.args.state.outcome c.args.table.now.reply.scripts) (HasSecond ac ∷ stands.marks)) c.in-Err.cause _ refl
-    (begins_taken c.args.table.now trade.card step.Second stands.marks before now course
-    (λ ac. scripts_behind (decision c.args.state.outcome ac.kind) (behind_if c.args.state.outcome c.args.table.now.reply.scripts) (HasSecond ac ∷ stands.marks))
+    trading_stopped c.args.table.now c.args.table.now transaction step.Second stands.steps_done now (λ later. course (c.args.reply.now ∷ later))
+    (λ ac. scripts_behind (decision c.args.state.outcome ac.kind) (behind_if c.args.state.outcome c.args.table.now.reply.scripts) (HasSecond ac ∷ stands.steps_done)) c.in-Err.cause _ refl
+    (begins_taken c.args.table.now transaction.card step.Second stands.steps_done before now course
+    (λ ac. scripts_behind (decision c.args.state.outcome ac.kind) (behind_if c.args.state.outcome c.args.table.now.reply.scripts) (HasSecond ac ∷ stands.steps_done))
     c.args.table.now.command.items rest stands.passed stands.tied stands.read refl c.args.reply.now)
     (λ later. ac_refused c.args.reply.now c.args.state.asked generate.Second c.in-Err.cause later c.in-Err.ensures.exact)

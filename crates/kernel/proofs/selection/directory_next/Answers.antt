@@ -3,13 +3,13 @@ use Rattle.kernel.proofs.Opened.{asks_on, stopped_on}
 use Rattle.kernel.proofs.selection.directory_next.Goals as goal
 use Rattle.kernel.specs.Dialogue.{selected_then}
 use Rattle.pse_directory.proofs.Going.{rest_wants}
-use Rattle.pse_directory.specs.Left.{rest_of as directory_rest}
-use Rattle.terminal_state.specs.Table.{deal_of}
+use Rattle.pse_directory.specs.Left.{directory_rest}
+use Rattle.terminal_state.specs.Table.{outset_of}
 
 pub returns-in-Ask-clause-stands : goal.returns-in-Ask-clause-stands
 returns-in-Ask-clause-stands c = λ log course rest passed leads. record {
-  passed = asks_on step.Select step.Select course (selected_then (deal_of c.args.table.now)) log rest passed (directory_rest c.in-Ask.listing) (rw c.in-Ask.is at leads);
-  tied = c.requires.moment;
+  passed = asks_on step.Select step.Select course (selected_then (outset_of c.args.table.now)) log rest passed (directory_rest c.in-Ask.listing) (rw c.in-Ask.is at leads);
+  tied = c.requires.fits.fresh;
   shows = rest_wants c.in-Ask.listing _ c.ask.ensures.wants;
 }
 
@@ -21,7 +21,7 @@ returns-in-List-clause-stands c = λ log course rest passed leads. c.ask_search-
 
 pub returns-in-Ended-clause-stands : goal.returns-in-Ended-clause-stands
 returns-in-Ended-clause-stands c = λ log course rest passed leads. record {
-  passed = stopped_on step.Select step.Select course (selected_then (deal_of c.args.table.now)) log rest passed c.in-Ended.cause (rw c.in-Ended.is at leads);
-  tied = c.requires.moment;
+  passed = stopped_on step.Select step.Select course (selected_then (outset_of c.args.table.now)) log rest passed c.in-Ended.cause (rw c.in-Ended.is at leads);
+  tied = c.requires.fits.fresh;
   shows = tt;
 }

@@ -1,6 +1,6 @@
 use Rattle.std.proofs.Common.{List, Option, None, option_map, sym, subst, ap, ◌∙◌}
 use Rattle.object_words.specs.declared.style.Style.{Style}
-use Rattle.word_lines.specs.Pieces.{Piece, Tells}
+use Rattle.report_lines.specs.Pieces.{Piece, Tells}
 use Rattle.message_words.specs.Iso.{MessageData, message_words, seen_message}
 use Rattle.message_words.specs.Messages.{reply_words, reply_by, meaning, objects_reply}
 use Rattle.message_words.specs.Objects.{borrowed}

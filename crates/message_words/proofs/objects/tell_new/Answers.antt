@@ -1,6 +1,6 @@
 use Rattle.std.proofs.Common.{List, ℕ, sym, ap, ◌∙◌, arith}
 use Rattle.std.specs.List.{flat_map}
-use Rattle.word_lines.proofs.Telling.{left_start, left_more, left_as, left_end}
+use Rattle.report_lines.proofs.Telling.{left_start, left_more, left_as, left_end}
 use Rattle.object_words.specs.Leading.{leading_behind}
 use Rattle.message_words.specs.Objects.{sent_before, if_new}
 use Rattle.message_words.proofs.objects.tell_new.Goals as goal

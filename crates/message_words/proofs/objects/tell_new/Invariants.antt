@@ -1,6 +1,6 @@
 use Rattle.std.proofs.Common.{◌≤◌, length, ◌-◌}
 use Rattle.std.specs.List.{flat_map}
-use Rattle.word_lines.proofs.Telling.{Left}
+use Rattle.report_lines.proofs.Telling.{Left}
 use Rattle.object_words.specs.Leading.{leading_behind, leading_items}
 use Rattle.message_words.specs.Objects.{sent_before, if_new}
 use Rattle.message_words.proofs.objects.tell_new.Given as goal

@@ -1,5 +1,5 @@
 use Rattle.report_lines.specs.Reading.{seen_ending, seen_fields}
-use Rattle.word_lines.proofs.Telling.{tells_then}
+use Rattle.report_lines.proofs.Telling.{tells_then}
 use Rattle.narrator.specs.Endings.{ending_words, end_fields}
 use Rattle.narrator.proofs.ending.tell_end.Goals as goal
 

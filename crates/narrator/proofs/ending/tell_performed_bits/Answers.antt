@@ -1,6 +1,6 @@
 use Rattle.std.proofs.Common.{codes, arith}
-use Rattle.word_lines.specs.Pieces.{text}
-use Rattle.word_lines.proofs.Telling.{left_start, left_more, left_as, left_end, bits_next, bits_end}
+use Rattle.report_lines.specs.Pieces.{text}
+use Rattle.report_lines.proofs.Telling.{left_start, left_more, left_as, left_end, bits_next, bits_end}
 use Rattle.narrator.specs.Endings.{performed_word}
 use Rattle.narrator.proofs.ending.tell_performed_bits.Goals as goal
 

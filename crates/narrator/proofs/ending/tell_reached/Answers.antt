@@ -1,5 +1,5 @@
 use Rattle.std.proofs.Common.{ℕ, sym, subst}
-use Rattle.word_lines.specs.Pieces.{Tells}
+use Rattle.report_lines.specs.Pieces.{Tells}
 use Rattle.narrator.specs.Endings.{reached_words}
 use Rattle.narrator.proofs.ending.tell_reached.Goals as goal
 

@@ -1,6 +1,6 @@
 use Rattle.std.proofs.Common.{arith, [], ◌∷◌}
 use Rattle.std.proofs.lemmas.List.{map-append}
-use Rattle.object_lists.specs.DolSeen.{seen, all_seen}
+use Rattle.object_lists.specs.DolSeen.{seen_dol_entry, all_seen}
 use Rattle.object_lists.proofs.DolReading.{one_more, at_fault, at_end}
 use Rattle.object_lists.proofs.DolSpelling.{spelled-push, spelled-end, spelled-fault}
 use Rattle.object_lists.proofs.dol.read_dol.Goals as goal
@@ -14,10 +14,10 @@ loop-place-preserved c =
     record {
       few = omega arith;
       within = onward.1;
-      spelled = rw (c.push.ensures.items, map-append seen c.loop-place.entries.items (c.in-Ok.entry ∷ []))
-          (spelled-push c.args.bytes.now (all_seen c.loop-place.entries.items) c.loop-place.place (seen c.in-Ok.entry) c.in-Ok.next c.loop-place.invariant.spelled c.in-Ok.ensures.spelled);
-      same = rw (c.push.ensures.items, map-append seen c.loop-place.entries.items (c.in-Ok.entry ∷ []))
-          (one_more c.args.bytes.now (all_seen c.loop-place.entries.items) c.loop-place.place (seen c.in-Ok.entry) c.in-Ok.next c.loop-place-test.true exact c.loop-place.invariant.same);
+      spelled = rw (c.push.ensures.items, map-append seen_dol_entry c.loop-place.entries.items (c.in-Ok.entry ∷ []))
+          (spelled-push c.args.bytes.now (all_seen c.loop-place.entries.items) c.loop-place.place (seen_dol_entry c.in-Ok.entry) c.in-Ok.next c.loop-place.invariant.spelled c.in-Ok.ensures.spelled);
+      same = rw (c.push.ensures.items, map-append seen_dol_entry c.loop-place.entries.items (c.in-Ok.entry ∷ []))
+          (one_more c.args.bytes.now (all_seen c.loop-place.entries.items) c.loop-place.place (seen_dol_entry c.in-Ok.entry) c.in-Ok.next c.loop-place-test.true exact c.loop-place.invariant.same);
     }
 
 pub returns-in-Err-clause-behind : goal.returns-in-Err-clause-behind

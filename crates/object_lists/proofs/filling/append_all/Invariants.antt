@@ -2,7 +2,7 @@ use Rattle.std.proofs.Common.{◌≡◌, ◌+◌, ◌≤◌, ◌++◌, length, d
 use Rattle.object_lists.specs.DolEntries.{total_of}
 use Rattle.object_lists.specs.DolSeen.{all_seen}
 use Rattle.object_lists.specs.Filled.{dol_data}
-use Rattle.object_lists.specs.Given.{entries_given}
+use Rattle.object_lists.specs.CardObjects.{entries_given}
 use Rattle.object_lists.proofs.filling.append_all.Given as goal
 
 abbrev pub invariant-loop-entry : goal.invariant-loop-entry

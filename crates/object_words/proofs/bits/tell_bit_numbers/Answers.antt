@@ -1,5 +1,5 @@
 use Rattle.std.proofs.Common.{arith}
-use Rattle.word_lines.proofs.Telling.{left_start, left_more, left_as, left_end}
+use Rattle.report_lines.proofs.Telling.{left_start, left_more, left_as, left_end}
 use Rattle.object_words.proofs.Bytes.{numbers_next, numbers_end}
 use Rattle.object_words.proofs.bits.tell_bit_numbers.Goals as goal
 

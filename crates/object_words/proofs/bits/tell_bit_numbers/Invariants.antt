@@ -1,5 +1,5 @@
 use Rattle.std.proofs.Common.{◌+◌, drop}
-use Rattle.word_lines.proofs.Telling.{Left}
+use Rattle.report_lines.proofs.Telling.{Left}
 use Rattle.object_words.specs.Bits.{bit_numbers, bit_numbers_from}
 use Rattle.object_words.proofs.bits.tell_bit_numbers.Given as goal
 

@@ -1,6 +1,6 @@
 use Rattle.std.proofs.Common.{true, codes, arith}
-use Rattle.word_lines.specs.Pieces.{text}
-use Rattle.word_lines.proofs.Telling.{left_start, left_more, left_as, left_end, bits_next, bits_end}
+use Rattle.report_lines.specs.Pieces.{text}
+use Rattle.report_lines.proofs.Telling.{left_start, left_more, left_as, left_end, bits_next, bits_end}
 use Rattle.object_words.specs.Bits.{bit_number}
 use Rattle.object_words.proofs.bits.tell_bits_of.Goals as goal
 

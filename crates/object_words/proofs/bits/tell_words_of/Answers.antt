@@ -1,6 +1,6 @@
 use Rattle.std.proofs.Common.{true, codes, arith, map}
-use Rattle.word_lines.specs.Pieces.{text}
-use Rattle.word_lines.proofs.Telling.{left_start, left_more, left_as, left_end, bits_next, bits_end}
+use Rattle.report_lines.specs.Pieces.{text}
+use Rattle.report_lines.proofs.Telling.{left_start, left_more, left_as, left_end, bits_next, bits_end}
 use Rattle.object_words.specs.Bits.{word_at}
 use Rattle.object_words.proofs.bits.tell_words_of.Goals as goal
 

@@ -1,6 +1,6 @@
 use Rattle.std.proofs.Common.{◌≡◌, List, [], ◌∷◌, ◌++◌, length, slice_index, arith, refl, sym, subst}
-use Rattle.word_lines.specs.Pieces.{Piece, Tells, hex}
-use Rattle.word_lines.proofs.Telling.{tells_then}
+use Rattle.report_lines.specs.Pieces.{Piece, Tells, hex}
+use Rattle.report_lines.proofs.Telling.{tells_then}
 use Rattle.object_words.specs.Issuer.{update_data_words, update_words}
 use Rattle.object_words.proofs.issuer.tell_update_data.Goals as goal
 

@@ -1,9 +1,9 @@
 use Rattle.std.proofs.Common.{◌≡◌, ◌++◌, ◌-◌, List, ℕ, Option, sym, ap, subst, append_assoc, ◌∙◌, arith}
 use Rattle.std.specs.List.{flat_map}
 use Rattle.ber_tlv.specs.Seen.{seen}
-use Rattle.explain_words.specs.declared.names.Form.{Form}
-use Rattle.word_lines.specs.Pieces.{Piece, Tells}
-use Rattle.word_lines.proofs.Telling.{left_start, left_more, left_as, left_end}
+use Rattle.value_words.specs.declared.names.Form.{Form}
+use Rattle.report_lines.specs.Pieces.{Piece, Tells}
+use Rattle.report_lines.proofs.Telling.{left_start, left_more, left_as, left_end}
 use Rattle.object_words.specs.Leading.{leading_behind}
 use Rattle.object_words.specs.Objects.{told_item, plain_item, objects_words, template_line, level_within, name_of}
 use Rattle.object_words.proofs.Opening.{objects-each, item-plain, item-last, item-opened}

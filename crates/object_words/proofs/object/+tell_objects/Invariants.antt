@@ -1,6 +1,6 @@
 use Rattle.std.proofs.Common.{◌≤◌, length, ◌-◌}
 use Rattle.std.specs.List.{flat_map}
-use Rattle.word_lines.proofs.Telling.{Left}
+use Rattle.report_lines.proofs.Telling.{Left}
 use Rattle.object_words.specs.Leading.{leading_behind}
 use Rattle.object_words.specs.Objects.{objects_words, told_item}
 use Rattle.object_words.proofs.object.+tell_objects.Given as goal

@@ -1,6 +1,6 @@
 use Rattle.std.proofs.Common.{[]}
 use Rattle.scenario_fields.proofs.Steps.{if_found}
-use Rattle.scenario_fields.specs.Place.{path}
+use Rattle.scenario_fields.specs.TablePaths.{path}
 use Rattle.toml.specs.View.{items_view}
 use Rattle.scenario.proofs.Apart.{accounts_own_pans}
 use Rattle.scenario.specs.Accounts.{accounts_from}

@@ -3,7 +3,7 @@ use Rattle.std.proofs.lemmas.List.Elements.{All-push}
 use Rattle.std.proofs.lemmas.Result.{err_from_is_err_and}
 use Rattle.issuer_host.specs.Account.{IsAccount}
 use Rattle.scenario_fields.proofs.Loops.{Fails-then}
-use Rattle.scenario_fields.specs.Place.{path}
+use Rattle.scenario_fields.specs.TablePaths.{path}
 use Rattle.scenario.proofs.AccountLoop.{accounts_pushed, accounts_stopped}
 use Rattle.scenario.proofs.account.read_accounts.Goals as goal
 

@@ -3,7 +3,7 @@ use Rattle.std.specs.List.{All}
 use Rattle.issuer_host.specs.Account.{IsAccount}
 use Rattle.toml.specs.View.{items_view}
 use Rattle.scenario_fields.specs.Fields.{with_front}
-use Rattle.scenario_fields.specs.Place.{path}
+use Rattle.scenario_fields.specs.TablePaths.{path}
 use Rattle.scenario.specs.Accounts.{accounts_from}
 use Rattle.scenario.proofs.account.read_accounts.Given as goal
 

@@ -1,5 +1,5 @@
 use Rattle.std.proofs.Common.{List, subst}
-use Rattle.card_files.specs.Kept.{AreInSight}
+use Rattle.card_files.specs.ImageRules.{AreInSight}
 use Rattle.card_files.specs.Views.{AppData}
 use Rattle.toml.specs.View.{table_view}
 use Rattle.scenario.proofs.Behind.{image_read}

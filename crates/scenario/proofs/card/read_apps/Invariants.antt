@@ -1,6 +1,6 @@
 use Rattle.std.proofs.Common.{◌≡◌, ◌≢◌, [], drop, length}
 use Rattle.std.specs.List.{All, AllPairs}
-use Rattle.card_files.specs.Kept.{KeepsRules}
+use Rattle.card_files.specs.ImageRules.{KeepsRules}
 use Rattle.toml.specs.View.{items_view}
 use Rattle.scenario_fields.specs.Fields.{with_front}
 use Rattle.scenario.specs.Cards.{apps_from}

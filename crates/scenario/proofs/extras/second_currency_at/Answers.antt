@@ -3,7 +3,7 @@ use Rattle.std.specs.Prelude.{codes, true, false}
 use Rattle.std.proofs.lemmas.Result.{err_from_is_err_and}
 use Rattle.toml.specs.View.{table_view}
 use Rattle.scenario_fields.proofs.Loops.{Fails-then}
-use Rattle.scenario_fields.specs.Place.{path, spot_path}
+use Rattle.scenario_fields.specs.TablePaths.{path, spot_path}
 use Rattle.scenario_fields.specs.declared.fault.ScenarioFault.TheVariants.{BadValue}
 use Rattle.card_files.specs.AppRules.{is_second_code}
 use Rattle.scenario.proofs.Behind.{tells_fails, second_kept, second_refused, second_failed}

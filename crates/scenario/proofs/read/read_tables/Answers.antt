@@ -1,5 +1,5 @@
 use Rattle.std.proofs.Common.{◌≡◌, Ok, refl, rules}
-use Rattle.scenario_fields.specs.Place.{at_top}
+use Rattle.scenario_fields.specs.TablePaths.{at_top}
 use Rattle.scenario_lanes.specs.Lanes.{lanes_at}
 use Rattle.scenario.specs.Cards.{card_names}
 use Rattle.scenario.specs.Scenario.{tables_of}

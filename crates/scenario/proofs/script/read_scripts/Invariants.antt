@@ -3,7 +3,7 @@ use Rattle.std.specs.List.{All}
 use Rattle.script_words.specs.Script.{IsScript}
 use Rattle.toml.specs.View.{items_view}
 use Rattle.scenario_fields.specs.Fields.{each, with_front}
-use Rattle.scenario_fields.specs.Place.{path}
+use Rattle.scenario_fields.specs.TablePaths.{path}
 use Rattle.scenario.specs.Accounts.{script_item}
 use Rattle.scenario.proofs.script.read_scripts.Given as goal
 

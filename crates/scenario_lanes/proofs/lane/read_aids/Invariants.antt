@@ -3,7 +3,7 @@ use Rattle.std.specs.List.{All}
 use Rattle.emv_dict.specs.Settings.{IsAidRow}
 use Rattle.toml.specs.View.{items_view}
 use Rattle.scenario_fields.specs.Fields.{each, with_front}
-use Rattle.scenario_fields.specs.Place.{path}
+use Rattle.scenario_fields.specs.TablePaths.{path}
 use Rattle.scenario_lanes.specs.Lanes.{aid_item}
 use Rattle.scenario_lanes.proofs.lane.read_aids.Given as goal
 

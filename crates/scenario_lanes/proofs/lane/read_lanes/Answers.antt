@@ -2,7 +2,7 @@ use Rattle.std.proofs.Common.{◌≡◌, ◌+◌, ◌≤◌, length, map, refl, 
 use Rattle.std.proofs.lemmas.Result.{err_from_is_err_and}
 use Rattle.std.proofs.lemmas.List.Elements.{All-push}
 use Rattle.scenario_fields.proofs.Loops.{Fails-then}
-use Rattle.scenario_fields.specs.Place.{path}
+use Rattle.scenario_fields.specs.TablePaths.{path}
 use Rattle.scenario_lanes.proofs.LaneLoop.{lanes_pushed, lanes_stopped, purchase_count-push, HaveRoom-push}
 use Rattle.scenario_lanes.specs.Plan.{IsLane}
 use Rattle.scenario_lanes.proofs.lane.read_lanes.Goals as goal

@@ -2,7 +2,7 @@ use Rattle.std.proofs.Common.{◌≡◌, ◌≤◌, drop, length, map}
 use Rattle.std.specs.List.{All}
 use Rattle.toml.specs.View.{items_view}
 use Rattle.scenario_fields.specs.Fields.{with_front}
-use Rattle.scenario_fields.specs.Place.{path}
+use Rattle.scenario_fields.specs.TablePaths.{path}
 use Rattle.scenario_lanes.specs.Lanes.{lanes_from}
 use Rattle.scenario_lanes.specs.Plan.{IsLane, HaveRoom, purchase_count}
 use Rattle.scenario_lanes.proofs.lane.read_lanes.Given as goal

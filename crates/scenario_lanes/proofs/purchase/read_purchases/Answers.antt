@@ -1,7 +1,7 @@
 use Rattle.std.proofs.Common.{map, rules, arith}
 use Rattle.std.proofs.lemmas.List.Elements.{All-push}
 use Rattle.scenario_fields.proofs.Loops.{each_pushed}
-use Rattle.scenario_fields.specs.Place.{path}
+use Rattle.scenario_fields.specs.TablePaths.{path}
 use Rattle.scenario_lanes.specs.Plan.{IsPlanned}
 use Rattle.scenario_lanes.specs.Purchases.{planned_item}
 use Rattle.scenario_lanes.proofs.purchase.read_purchases.Goals as goal

@@ -2,7 +2,7 @@ use Rattle.std.proofs.Common.{◌≡◌, drop, length, map}
 use Rattle.std.specs.List.{All}
 use Rattle.toml.specs.View.{items_view}
 use Rattle.scenario_fields.specs.Fields.{each, with_front}
-use Rattle.scenario_fields.specs.Place.{path}
+use Rattle.scenario_fields.specs.TablePaths.{path}
 use Rattle.scenario_lanes.specs.Plan.{IsPlanned}
 use Rattle.scenario_lanes.specs.Purchases.{planned_item}
 use Rattle.scenario_lanes.proofs.purchase.read_purchases.Given as goal

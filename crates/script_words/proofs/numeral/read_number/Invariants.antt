@@ -1,5 +1,5 @@
 use Rattle.std.proofs.Common.{◌≡◌, ◌≤◌, drop}
-use Rattle.script_words.specs.Numeral.{number_of}
+use Rattle.script_words.specs.Numeral.{number_up_to}
 use Rattle.script_words.proofs.Numerals.{read_on}
 use Rattle.script_words.proofs.numeral.read_number.Given as goal
 
@@ -7,5 +7,5 @@ use Rattle.script_words.proofs.numeral.read_number.Given as goal
 abbrev pub invariant-loop-c : goal.invariant-loop-c
 invariant-loop-c l = record {
   below : l.number ≤ l.most;
-  rest : read_on l.most l.number (drop l.c-index l.text) ≡ number_of l.most l.text;
+  rest : read_on l.most l.number (drop l.c-index l.text) ≡ number_up_to l.most l.text;
 }

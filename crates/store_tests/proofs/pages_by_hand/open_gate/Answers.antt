@@ -1,8 +1,8 @@
 use Rattle.std.proofs.Common.{◌≡◌, ℕ, List, [], ◌∷◌, ◌++◌, Some, map, replicate, refl, lit<, ap, sym, ◌∙◌}
 use Rattle.std.specs.Prelude.{slice_set}
-use Rattle.emv_ports.specs.Memory.{Memory, written}
+use Rattle.emv_ports.specs.Memory.{Memory, page_written}
 use Rattle.emv_ports.specs.PageReading.{Reading}
-use Rattle.torn_store.specs.Layout.{filled, recover}
+use Rattle.torn_store.specs.Layout.{padded_page, recover}
 use Rattle.torn_store.specs.Recovery.{Holds}
 use Rattle.torn_store.proofs.Outcomes.{has_first}
 use Rattle.torn_store.proofs.Readings.{sure_page}
@@ -23,8 +23,8 @@ blank = replicate 64 0
 -- what is written
 abbrev pages : List (List ℕ)
 pages =
-    replicate 64 1 ∷ filled (0 ∷ 130 ∷ 10 ∷ []) ∷ filled (11 ∷ []) ∷ filled (12 ∷ 13 ∷ []) ∷ replicate 14 blank
-    ++ filled (2 ∷ 1 ∷ 3 ∷ []) ∷ filled (0 ∷ 129 ∷ 26 ∷ []) ∷ filled (28 ∷ 29 ∷ []) ∷ replicate 43 blank
+    replicate 64 1 ∷ padded_page (0 ∷ 130 ∷ 10 ∷ []) ∷ padded_page (11 ∷ []) ∷ padded_page (12 ∷ 13 ∷ []) ∷ replicate 14 blank
+    ++ padded_page (2 ∷ 1 ∷ 3 ∷ []) ∷ padded_page (0 ∷ 129 ∷ 26 ∷ []) ∷ padded_page (28 ∷ 29 ∷ []) ∷ replicate 43 blank
 
 -- what is found
 abbrev state : List ℕ
@@ -42,19 +42,19 @@ holds = record {
   each = λ bytes reading. ap recover (sure_pages pages bytes reading) ∙ found;
 }
 
-put_cells : (old new : Memory) (page : ℕ) (bytes : List ℕ) (cells : Cells) → new ≡ written old page bytes → old.cells ≡ cells
+put_cells : (old new : Memory) (page : ℕ) (bytes : List ℕ) (cells : Cells) → new ≡ page_written old page bytes → old.cells ≡ cells
     → new.cells ≡ slice_set cells page (map Some bytes)
 put_cells old new page bytes cells is before = ap (λ (m : Memory). m.cells) is ∙ ap (λ (xs : Cells). slice_set xs page (map Some bytes)) before
 
 pub returns-clause-between : goal.returns-clause-between
 returns-clause-between g c =
     let on = ap (λ (m : Memory). m.cells) c.power_up.ensures.turned_on ∙ c.requires.cells in
-    let one = put_cells _ _ 0 (filled (replicate 64 1)) _ c.put.ensures on in
-    let two = put_cells _ _ 1 (filled (0 ∷ 130 ∷ 10 ∷ [])) _ c.put-2.ensures one in
-    let three = put_cells _ _ 2 (filled (11 ∷ [])) _ c.put-3.ensures two in
-    let four = put_cells _ _ 3 (filled (12 ∷ 13 ∷ [])) _ c.put-4.ensures three in
-    let five = put_cells _ _ 18 (filled (2 ∷ 1 ∷ 3 ∷ [])) _ c.put-5.ensures four in
-    let six = put_cells _ _ 19 (filled (0 ∷ 129 ∷ 26 ∷ [])) _ c.put-6.ensures five in
-    let seven = put_cells _ _ 20 (filled (28 ∷ 29 ∷ [])) _ c.put-7.ensures six in
+    let one = put_cells _ _ 0 (padded_page (replicate 64 1)) _ c.put.ensures on in
+    let two = put_cells _ _ 1 (padded_page (0 ∷ 130 ∷ 10 ∷ [])) _ c.put-2.ensures one in
+    let three = put_cells _ _ 2 (padded_page (11 ∷ [])) _ c.put-3.ensures two in
+    let four = put_cells _ _ 3 (padded_page (12 ∷ 13 ∷ [])) _ c.put-4.ensures three in
+    let five = put_cells _ _ 18 (padded_page (2 ∷ 1 ∷ 3 ∷ [])) _ c.put-5.ensures four in
+    let six = put_cells _ _ 19 (padded_page (0 ∷ 129 ∷ 26 ∷ [])) _ c.put-6.ensures five in
+    let seven = put_cells _ _ 20 (padded_page (28 ∷ 29 ∷ [])) _ c.put-7.ensures six in
     let off = ap (λ (m : Memory). m.cells) c.power_off.ensures in
     (state, state, rw (off, seven) (holds_among (map (map Some) pages) state (state ∷ state ∷ []) holds (has_first state state)))

@@ -11,7 +11,7 @@ returns-clause-lost g c =
     let old = c.args.store.state in
     let new = c.args.new.now in
     IfErr-weaker c.release.result _ _
-    (λ lost holds.
+    (λ lost torn.
     holds_among (g.P.Pages.memory lost.pages).cells new (old ∷ new ∷ [])
-    (subst (λ (s : List ℕ). Holds recover (g.P.Pages.memory lost.pages).cells s) c.in_ok-commit.ensures.state holds) (has_second old new))
-    c.release.ensures.lost
+    (subst (λ (s : List ℕ). Holds recover (g.P.Pages.memory lost.pages).cells s) c.in_ok-commit.ensures.commits.state torn.lost) (has_second old new))
+    c.release.ensures.torn

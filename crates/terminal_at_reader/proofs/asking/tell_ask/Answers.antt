@@ -1,17 +1,17 @@
 use Rattle.std.proofs.Common.{sym, ◌∙◌}
 use Rattle.kernel.specs.Dialogue.{dialogue}
-use Rattle.kernel.specs.Kernel.{deal_in}
-use Rattle.terminal_at_reader.proofs.Talking.{told_card, told_host}
+use Rattle.kernel.specs.Kernel.{outset_in}
+use Rattle.terminal_at_reader.proofs.Entries.{told_card, told_host}
 use Rattle.terminal_at_reader.proofs.asking.tell_ask.Goals as goal
 
 pub returns-in-ToCard : goal.returns-in-ToCard
 returns-in-ToCard c replies stands =
-    let at = dialogue (deal_in c.args.kernel.now) replies in
+    let at = dialogue (outset_in c.args.kernel.now) replies in
     c.write_bytes.ensures
-    ∙ told_card (deal_in c.args.kernel.now) at.marks at.deed _ (sym c.in-ToCard.is ∙ c.next.ensures.told replies stands) (c.bytes.ensures.told replies stands)
+    ∙ told_card (outset_in c.args.kernel.now) at.steps_done at.deed _ (sym c.in-ToCard.is ∙ c.next.ensures.told replies stands) (c.bytes.ensures.told replies stands)
 
 pub returns-in-ToHost : goal.returns-in-ToHost
 returns-in-ToHost c replies stands =
-    let at = dialogue (deal_in c.args.kernel.now) replies in
+    let at = dialogue (outset_in c.args.kernel.now) replies in
     c.write_bytes-in-ToHost.ensures
-    ∙ told_host (deal_in c.args.kernel.now) at.marks at.deed _ (sym c.in-ToHost.is ∙ c.next.ensures.told replies stands) (c.bytes-in-ToHost.ensures.told replies stands)
+    ∙ told_host (outset_in c.args.kernel.now) at.steps_done at.deed _ (sym c.in-ToHost.is ∙ c.next.ensures.told replies stands) (c.bytes-in-ToHost.ensures.told replies stands)

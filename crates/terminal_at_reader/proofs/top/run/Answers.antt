@@ -1,22 +1,20 @@
-use Rattle.terminal_at_reader.specs.Top.{AtFirst, Behind, InTalk, Unheard}
+use Rattle.std.proofs.Common.{List, ℕ, subst}
+use Rattle.line_talk.specs.Talk.{EndsDocument, HasDocument, Served, Sides}
+use Rattle.terminal_at_reader.specs.Top.{terminal_programme}
+use Rattle.terminal_at_reader.proofs.Tracing.{had_dialogue}
 use Rattle.terminal_at_reader.proofs.top.run.Goals as goal
 
-pub returns-in-Ok-Document-clause-odd : goal.returns-in-Ok-Document-clause-odd
-returns-in-Ok-Document-clause-odd g c = λ two.
-    let found = c.hold_document.ensures.odd two in
-    Unheard c.as_slice.result.now (g.S.Source.left c.read_given.new.source)
-    (rw c.as_slice.ensures.value (rw c.in-Ok-Document.field-0-is at c.in-Ok-Document.ensures.given)) found.0 found.1 found.2
+pub returns-in-Ok-Document-clause-served : goal.returns-in-Ok-Document-clause-served
+returns-in-Ok-Document-clause-served g c =
+    let given = rw c.in-Ok-Document.field-0-is at c.in-Ok-Document.ensures.given in
+    HasDocument c.in-Ok-Document.bytes.items (g.S.Source.left c.read_preamble.new.source) given
+    (subst (λ (bytes : List ℕ). EndsDocument terminal_programme bytes
+    (record {
+      first = g.S.Source.left c.read_preamble.new.source;
+      left = g.S.Source.left c.serve_document.new.source;
+      before = g.K.Sink.held c.args.sink.now;
+      held = g.K.Sink.held c.serve_document.new.sink;
+    }) c.serve_document.result) c.as_slice.ensures.value c.serve_document.ensures.ends)
 
-pub returns-in-Ok-Document-clause-broken : goal.returns-in-Ok-Document-clause-broken
-returns-in-Ok-Document-clause-broken g c = λ why.
-    InTalk c.as_slice.result.now (g.S.Source.left c.read_given.new.source)
-    (rw c.as_slice.ensures.value (rw c.in-Ok-Document.field-0-is at c.in-Ok-Document.ensures.given)) (c.hold_document.ensures.broken why)
-
-pub returns-in-Ok-Document-clause-write_front : goal.returns-in-Ok-Document-clause-write_front
-returns-in-Ok-Document-clause-write_front g c = λ four.
-    Behind c.as_slice.result.now (g.S.Source.left c.read_given.new.source)
-    (rw c.as_slice.ensures.value (rw c.in-Ok-Document.field-0-is at c.in-Ok-Document.ensures.given)) (c.hold_document.ensures.short four)
-
-pub returns-in-Ok-Other-clause-write_front : goal.returns-in-Ok-Other-clause-write_front
-returns-in-Ok-Other-clause-write_front g c = λ four.
-    AtFirst (rw c.in-Ok-Other.field-0-is at c.in-Ok-Other.ensures.given) (c.answer_other.ensures.front four)
+pub returns-in-Ok-Document-clause-traced : goal.returns-in-Ok-Document-clause-traced
+returns-in-Ok-Document-clause-traced g c = had_dialogue _ c.serve_document.result (returns-in-Ok-Document-clause-served g c)

@@ -1,7 +1,7 @@
 use Rattle.std.proofs.Common.{subst, refl, ◌∷◌, []}
 use Rattle.std.proofs.lemmas.Result.{on_ok_weaker, on_err_weaker}
-use Rattle.emv_ports.specs.Memory.{Memory, marked}
-use Rattle.torn_store.specs.Layout.{changed}
+use Rattle.emv_ports.specs.Memory.{Memory, commit_marked}
+use Rattle.torn_store.specs.Layout.{changed_pages}
 use Rattle.torn_store.specs.Writing.{WritesAll, StopsIn, commit_row}
 use Rattle.torn_store.proofs.Committing.{commit_all, commit_stops, commit_counted, commit_cut, ready_marked}
 use Rattle.torn_store.proofs.Outcomes.{has_first, has_second}
@@ -13,8 +13,8 @@ returns-clause-ready g c =
     let old = g.P.Pages.memory c.args.pages.now in
     let new = g.P.Pages.memory c.write_state.new.pages in
     on_ok_weaker c.write_state.result
-    (λ all. commit_all (marked old) new c.args.old.now c.args.new.now (ready_marked old c.args.old.now c.requires.ready) c.requires.fits
-    (subst (λ (m : Memory). WritesAll m (commit_row (changed c.args.old.now c.args.new.now)) new) c.mark.ensures all))
+    (λ all. commit_all (commit_marked old) new c.args.old.now c.args.new.now (ready_marked old c.args.old.now c.requires.ready) c.requires.fits
+    (subst (λ (m : Memory). WritesAll m (commit_row (changed_pages c.args.old.now c.args.new.now)) new) c.mark.ensures all))
     c.write_state.ensures.all
 
 pub returns-clause-row : goal.returns-clause-row
@@ -22,8 +22,8 @@ returns-clause-row g c =
     let old = g.P.Pages.memory c.args.pages.now in
     let new = g.P.Pages.memory c.write_state.new.pages in
     on_ok_weaker c.write_state.result
-    (λ all. commit_counted (marked old) new c.args.old.now c.args.new.now c.requires.ready.on.plan refl c.requires.fits
-    (subst (λ (m : Memory). WritesAll m (commit_row (changed c.args.old.now c.args.new.now)) new) c.mark.ensures all))
+    (λ all. commit_counted (commit_marked old) new c.args.old.now c.args.new.now c.requires.ready.on.plan refl c.requires.fits
+    (subst (λ (m : Memory). WritesAll m (commit_row (changed_pages c.args.old.now c.args.new.now)) new) c.mark.ensures all))
     c.write_state.ensures.all
 
 pub returns-clause-lost : goal.returns-clause-lost
@@ -31,10 +31,10 @@ returns-clause-lost g c =
     let old = g.P.Pages.memory c.args.pages.now in
     let new = g.P.Pages.memory c.write_state.new.pages in
     on_err_weaker c.write_state.result
-    (λ stops. commit_stops (marked old) new c.args.old.now c.args.new.now (c.args.old.now ∷ c.args.new.now ∷ [])
+    (λ stops. commit_stops (commit_marked old) new c.args.old.now c.args.new.now (c.args.old.now ∷ c.args.new.now ∷ [])
     (ready_marked old c.args.old.now c.requires.ready) c.requires.fits
     (has_first c.args.old.now c.args.new.now) (has_second c.args.old.now c.args.new.now)
-    (subst (λ (m : Memory). StopsIn m (commit_row (changed c.args.old.now c.args.new.now)) new) c.mark.ensures stops))
+    (subst (λ (m : Memory). StopsIn m (commit_row (changed_pages c.args.old.now c.args.new.now)) new) c.mark.ensures stops))
     c.write_state.ensures.stops
 
 pub returns-clause-before : goal.returns-clause-before
@@ -42,8 +42,8 @@ returns-clause-before g c =
     let old = g.P.Pages.memory c.args.pages.now in
     let new = g.P.Pages.memory c.write_state.new.pages in
     on_err_weaker c.write_state.result
-    (λ stops before. stops_before (commit_row (changed c.args.old.now c.args.new.now)) (marked old) new before
-    (subst (λ (m : Memory). StopsIn m (commit_row (changed c.args.old.now c.args.new.now)) new) c.mark.ensures stops))
+    (λ stops before. stops_before (commit_row (changed_pages c.args.old.now c.args.new.now)) (commit_marked old) new before
+    (subst (λ (m : Memory). StopsIn m (commit_row (changed_pages c.args.old.now c.args.new.now)) new) c.mark.ensures stops))
     c.write_state.ensures.stops
 
 pub returns-clause-cut : goal.returns-clause-cut
@@ -51,6 +51,6 @@ returns-clause-cut g c =
     let old = g.P.Pages.memory c.args.pages.now in
     let new = g.P.Pages.memory c.write_state.new.pages in
     on_err_weaker c.write_state.result
-    (λ stops. commit_cut (marked old) new c.args.old.now c.args.new.now c.requires.ready.on.plan refl c.requires.fits
-    (subst (λ (m : Memory). StopsIn m (commit_row (changed c.args.old.now c.args.new.now)) new) c.mark.ensures stops))
+    (λ stops. commit_cut (commit_marked old) new c.args.old.now c.args.new.now c.requires.ready.on.plan refl c.requires.fits
+    (subst (λ (m : Memory). StopsIn m (commit_row (changed_pages c.args.old.now c.args.new.now)) new) c.mark.ensures stops))
     c.write_state.ensures.stops

@@ -11,10 +11,16 @@ use Rattle.torn_store.proofs.Opening.{never_stops, first_all, first_short_slice}
 use Rattle.torn_store.proofs.Outcomes.{ok_spared}
 use Rattle.torn_store.proofs.commits.write_first.Goals as goal
 
-pub replay-requires-clause-within : goal.replay-requires-clause-within
-replay-requires-clause-within g c =
-    changed_within [] c.as_slice.result.now c.args.first.now c.changed_in.new.blocks.items c.as_slice-2.result.now
-    c.requires.fits (c.as_slice.ensures.value ∙ c.framed.ensures) c.changed_in.ensures c.as_slice-2.ensures.value
+pub replay-requires : goal.replay-requires
+replay-requires g c = record {
+  may = record {
+    on = c.requires.on.on;
+    few = c.as_slice-2.ensures.fits;
+    within =
+        changed_within [] c.as_slice.result.now c.args.first.now c.changed_in.new.blocks.items c.as_slice-2.result.now
+        c.requires.fits (c.as_slice.ensures.value ∙ c.framed.ensures) c.changed_in.ensures c.as_slice-2.ensures.value;
+  };
+}
 
 pub returns-in_err-replay-clause-spared : goal.returns-in_err-replay-clause-spared
 returns-in_err-replay-clause-spared g c =

@@ -1,10 +1,13 @@
-use Rattle.std.proofs.Common.{◌≡◌, ℕ, List, ◌∷◌, refl, ap, sym}
+use Rattle.std.proofs.Common.{rules, ◌≡◌, ℕ, List, ◌∷◌, refl, ap, sym}
 use Rattle.std.proofs.lemmas.Result.{on_ok_weaker, on_err_weaker}
 use Rattle.torn_store.specs.Writing.{journaled, header, gate, replay_row, commit_row}
 use Rattle.torn_store.specs.declared.layout.Block.{Block}
 use Rattle.torn_store.proofs.Outcomes.{on_err}
 use Rattle.torn_store.proofs.Turns.{rest_none, rest_row, rest_row_stops, rest_more, rest_stops}
 use Rattle.torn_store.proofs.commits.write_row.Goals as goal
+
+pub replay-requires : goal.replay-requires
+replay-requires g c = record { may = record { on = search rules; few = c.requires.may.few; within = c.requires.may.within } }
 
 pub returns-in_err-write_journal-clause-stops : goal.returns-in_err-write_journal-clause-stops
 returns-in_err-write_journal-clause-stops g c =

@@ -2,7 +2,13 @@ use Rattle.std.proofs.Common.{◌∙◌}
 use Rattle.torn_store.proofs.Committing.{changed_within}
 use Rattle.torn_store.proofs.commits.write_state.Goals as goal
 
-pub write_row-requires-clause-within : goal.write_row-requires-clause-within
-write_row-requires-clause-within g c =
-    changed_within c.as_slice.result.now c.as_slice-2.result.now c.args.new.now c.changed_in.new.blocks.items c.as_slice-3.result.now
-    c.requires.fits (c.as_slice-2.ensures.value ∙ c.framed-2.ensures) c.changed_in.ensures c.as_slice-3.ensures.value
+pub write_row-requires : goal.write_row-requires
+write_row-requires g c = record {
+  may = record {
+    on = c.requires.on;
+    few = c.as_slice-3.ensures.fits;
+    within =
+        changed_within c.as_slice.result.now c.as_slice-2.result.now c.args.new.now c.changed_in.new.blocks.items c.as_slice-3.result.now
+        c.requires.fits (c.as_slice-2.ensures.value ∙ c.framed-2.ensures) c.changed_in.ensures c.as_slice-3.ensures.value;
+  };
+}

@@ -1,5 +1,5 @@
 use Rattle.std.proofs.Common.{◌+◌, ◌/◌, ◌∷◌, [], ◌++◌, ℕ, List, length, ap, sym, ◌∙◌, arith}
-use Rattle.torn_store.specs.Layout.{filled}
+use Rattle.torn_store.specs.Layout.{padded_page}
 use Rattle.torn_store.proofs.Changes.{left_same, left_more}
 use Rattle.torn_store.proofs.layout.changed_in.Goals as goal
 
@@ -19,6 +19,6 @@ loop-place-preserved c = record {
       c.from_page.ensures c.part_of-part.ensures.part (sym c.if-starts_with.false ∙ c.starts_with.ensures.value)
       (c.push.ensures.items
       ∙ ap (λ (bytes : List ℕ). c.loop-place.blocks.items ++ record { page = c.loop-place.place + 1; bytes = bytes } ∷ [])
-      (c.filled.ensures ∙ ap filled c.part_of-part.ensures.part))
+      (c.filled.ensures ∙ ap padded_page c.part_of-part.ensures.part))
       c.loop-place.invariant.left;
 }

@@ -14,4 +14,4 @@ loop-verdict-preserved c =
     let far = c.loop-verdict.invariant in
     subst (λ (entries : List Entry). Far c.args.kernel.now c.exchange.new.kernel c.args.entries.now (c.loop-verdict.at + 2) entries) (sym c.behind_two-rest.ensures)
     (far_goes c.args.kernel.now c.loop-verdict.kernel c.exchange.new.kernel c.args.entries.now c.loop-verdict.at c.loop-verdict.rest.now far
-    (c.in-None.ensures.exact far.replies far.stands) (c.in-None.ensures.deal refl) (c.in-None.ensures.fresh refl) (c.in-None.ensures.two refl))
+    (c.in-None.ensures.exact far.replies far.stands) (c.in-None.ensures.outset refl) (c.in-None.ensures.fresh refl) (c.in-None.ensures.two refl))

@@ -7,8 +7,8 @@ use Rattle.scenario.specs.Cards.{CardData}
 use Rattle.scenario.specs.Seen.{seen_card, seen_cards}
 use Rattle.txn_replay.specs.Audited.{question_check}
 use Rattle.txn_replay.specs.Steps.{PowersUp, app_checks, checks_from}
-use Rattle.txn_replay.proofs.Audits.{there_apps, there_canned}
-use Rattle.txn_replay.proofs.Checks.{own_check, power_check, asked_check, later_check, passed_check, no_check, seen_at, seen_image, seen_canned}
+use Rattle.txn_replay.proofs.AuditLaws.AuditedCards.{there_apps, there_canned}
+use Rattle.txn_replay.proofs.AuditLaws.AuditNumbers.{own_check, power_check, asked_check, later_check, passed_check, no_check, seen_at, seen_image, seen_canned}
 use Rattle.txn_replay.proofs.Lists.{found_at}
 use Rattle.txn_replay.proofs.audit.audit_step.Goals as goal
 

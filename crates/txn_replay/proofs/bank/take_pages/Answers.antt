@@ -6,9 +6,9 @@ use Rattle.scenario.specs.CardRules.{IsKind}
 use Rattle.scenario.specs.Cards.{CardData}
 use Rattle.scenario.specs.Seen.{seen_card, seen_cards}
 use Rattle.txn_replay.specs.Banked.{AreNew}
-use Rattle.txn_replay.specs.Slot.{SlotSeen}
-use Rattle.txn_replay.proofs.Banking.{one_new, first_blank, rest_blank, rest_drop}
-use Rattle.txn_replay.proofs.Checks.{seen_at}
+use Rattle.txn_replay.specs.RunCard.{RunCardSeen}
+use Rattle.txn_replay.proofs.PageLaws.CardPagesBack.{one_new, first_blank, rest_blank, rest_drop}
+use Rattle.txn_replay.proofs.AuditLaws.AuditNumbers.{seen_at}
 use Rattle.txn_replay.proofs.Lists.{found_at}
 use Rattle.txn_replay.proofs.bank.take_pages.Goals as goal
 
@@ -31,14 +31,14 @@ new-requires-clause-blank g c =
 
 pub loop-card-preserved : goal.loop-card-preserved
 loop-card-preserved g c =
-    let here : slice_get (seen_cards c.args.cards.now) (length c.loop-card.slots.items) ≡ Some (seen_card c.card-item.result) =
-    ap (λ n. slice_get (seen_cards c.args.cards.now) n) (sym c.loop-card.slots.ok.0 ∙ c.loop-card.invariant.count)
+    let here : slice_get (seen_cards c.args.cards.now) (length c.loop-card.run_cards.items) ≡ Some (seen_card c.card-item.result) =
+    ap (λ n. slice_get (seen_cards c.args.cards.now) n) (sym c.loop-card.run_cards.ok.0 ∙ c.loop-card.invariant.count)
     ∙ seen_at c.args.cards.now c.loop-card.card-index c.card-item.result
     (found_at c.args.cards.now c.loop-card.card-index c.card-item.result c.loop-card-test.true c.card-item.is) in
-    let more : c.push.new.self.items ≡ c.loop-card.slots.items ++ c.new.result ∷ [] = c.in-Ok.ensures.items in
+    let more : c.push.new.self.items ≡ c.loop-card.run_cards.items ++ c.new.result ∷ [] = c.in-Ok.ensures.items in
     record {
-      new = subst (λ (slots : List SlotSeen). AreNew (seen_cards c.args.cards.now) slots) (sym more)
-          (one_new (seen_cards c.args.cards.now) c.loop-card.slots.items (seen_card c.card-item.result) c.new.result c.loop-card.invariant.new here c.new.ensures.new);
+      new = subst (λ (run_cards : List RunCardSeen). AreNew (seen_cards c.args.cards.now) run_cards) (sym more)
+          (one_new (seen_cards c.args.cards.now) c.loop-card.run_cards.items (seen_card c.card-item.result) c.new.result c.loop-card.invariant.new here c.new.ensures.new);
       count = c.in-Ok.ensures.len ∙ ap (λ n. n + 1) c.loop-card.invariant.count;
       fits = omega (arith, c.loop-card.invariant.fits, c.push.ensures.capacity);
       spare =

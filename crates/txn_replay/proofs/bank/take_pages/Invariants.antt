@@ -9,9 +9,9 @@ use Rattle.txn_replay.proofs.bank.take_pages.Given as goal
 
 abbrev pub invariant-loop-card : goal.invariant-loop-card
 invariant-loop-card g l = record {
-  new : AreNew (seen_cards l.cards) l.slots.items;
-  count : vec_len l.slots ≡ l.card-index;
-  fits : length l.cards ≤ vec_capacity l.slots;
+  new : AreNew (seen_cards l.cards) l.run_cards.items;
+  count : vec_len l.run_cards ≡ l.card-index;
+  fits : length l.cards ≤ vec_capacity l.run_cards;
   spare : map g.P.Pages.memory l.bank.items ≡ drop l.card-index (map g.P.Pages.memory l.fn.bank.items);
   place : vec_len l.bank + l.card-index ≡ vec_len l.fn.bank;
   pages : length l.cards ≤ vec_len l.fn.bank;

@@ -1,10 +1,10 @@
 use Rattle.std.proofs.Common.{map, sym, ap, ◌∙◌, subst, arith}
 use Rattle.std.specs.List.{All}
 use Rattle.std.specs.Prelude.{is_some}
-use Rattle.capture_store.specs.SeenShelf.{ShelfSeen}
+use Rattle.capture_store.specs.SeenLaneStore.{LaneStoreSeen}
 use Rattle.emv_ports.specs.Memory.{IsBlank}
 use Rattle.txn_replay.specs.Banked.{IsNewStore}
-use Rattle.txn_replay.proofs.Banking.{left_blank, taken_blank, store_is_some, one_store, no_store}
+use Rattle.txn_replay.proofs.PageLaws.CardPagesBack.{left_blank, taken_blank, store_is_some, one_store, no_store}
 use Rattle.txn_replay.proofs.bank.take_store.Goals as goal
 
 pub new-requires-clause-off : goal.new-requires-clause-off
@@ -30,9 +30,11 @@ returns-then-durable-clause-length g c =
 pub returns-then-durable-clause-some : goal.returns-then-durable-clause-some
 returns-then-durable-clause-some g c = store_is_some c.new.result c.new.ensures.new ∙ sym c.if-durable.true
 
-pub returns-then-durable-clause-blank : goal.returns-then-durable-clause-blank
-returns-then-durable-clause-blank g c =
-    subst (λ xs. All IsBlank (map g.P.Pages.memory xs)) (sym c.remove.ensures.items) (left_blank g.P.Pages.memory c.args.bank.now.items c.args.place c.requires.blank)
+pub returns-then-durable-clause-bank : goal.returns-then-durable-clause-bank
+returns-then-durable-clause-bank g c = record {
+  blank = subst (λ xs. All IsBlank (map g.P.Pages.memory xs)) (sym c.remove.ensures.items) (left_blank g.P.Pages.memory c.args.bank.now.items c.args.place c.requires.blank);
+  same = c.remove.ensures.capacity;
+}
 
 pub returns-clause-new : goal.returns-clause-new
 returns-clause-new g c = subst (λ b. IsNewStore c.absent.result b) (sym c.if-durable.false) c.absent.ensures
@@ -41,4 +43,4 @@ pub returns-clause-length : goal.returns-clause-length
 returns-clause-length g c = let none = no_store c.absent.result c.absent.ensures in omega (arith, none)
 
 pub returns-clause-some : goal.returns-clause-some
-returns-clause-some g c = ap (λ (x : ShelfSeen). is_some x) c.absent.ensures ∙ sym c.if-durable.false
+returns-clause-some g c = ap (λ (x : LaneStoreSeen). is_some x) c.absent.ensures ∙ sym c.if-durable.false

@@ -1,6 +1,6 @@
 use Rattle.std.proofs.Common.{◌≡◌, ◌<◌, length, slice_get, Some, sym, ◌∙◌, subst}
 use Rattle.txn_replay.specs.Seen.{is_lane_done}
-use Rattle.txn_replay.proofs.Done.{undone_below, done_next}
+use Rattle.txn_replay.proofs.TurnLaws.AllDone.{undone_below, done_next}
 use Rattle.txn_replay.proofs.Lists.{found_at}
 use Rattle.txn_replay.proofs.lane.are_done.Goals as goal
 

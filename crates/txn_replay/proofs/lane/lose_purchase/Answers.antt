@@ -1,4 +1,4 @@
-use Rattle.txn_replay.proofs.Storings.{lost_keeps}
+use Rattle.txn_replay.proofs.StoreLaws.StoreFirst.{lost_keeps}
 use Rattle.txn_replay.proofs.lane.lose_purchase.Goals as goal
 
 pub returns-clause-keeps : goal.returns-clause-keeps

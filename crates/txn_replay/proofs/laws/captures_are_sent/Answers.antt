@@ -1,5 +1,5 @@
-use Rattle.txn_replay.proofs.Capturing.{captures_sent}
-use Rattle.txn_replay.proofs.Losing.{lost_are_told, whole_lost}
+use Rattle.txn_replay.proofs.CaptureLaws.CapturesSent.{captures_sent}
+use Rattle.txn_replay.proofs.LineLaws.LostPurchasesTold.{lost_are_told, whole_lost}
 use Rattle.txn_replay.proofs.laws.captures_are_sent.Goals as goal
 
 pub returns-clause-sent : goal.returns-clause-sent

@@ -1,5 +1,5 @@
-use Rattle.txn_replay.proofs.Gives.{given_told, given_left}
-use Rattle.txn_replay.proofs.Sureness.{held_sure, answered_sure}
+use Rattle.txn_replay.proofs.CardLaws.GivenRows.{given_told, given_left}
+use Rattle.txn_replay.proofs.CardLaws.AnswersAreSure.{held_sure, answered_sure}
 use Rattle.txn_replay.proofs.laws.cards_are_told.Goals as goal
 
 pub returns-clause-given : goal.returns-clause-given

@@ -1,4 +1,4 @@
-use Rattle.txn_replay.proofs.Respelling.{dialects_show, whole_dialects_show}
+use Rattle.txn_replay.proofs.RunLaws.DialectLines.{dialects_show, whole_dialects_show}
 use Rattle.txn_replay.proofs.laws.dialects_show.Goals as goal
 
 pub returns-clause-reached : goal.returns-clause-reached

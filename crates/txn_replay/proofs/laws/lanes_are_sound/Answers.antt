@@ -1,7 +1,7 @@
-use Rattle.txn_replay.proofs.Apart.{lanes_apart}
-use Rattle.txn_replay.proofs.Fairness.{reached_sound}
-use Rattle.txn_replay.proofs.Losses.{losses_told}
-use Rattle.txn_replay.proofs.Waiting.{idle_stays}
+use Rattle.txn_replay.proofs.RunLaws.LanesApart.{lanes_apart}
+use Rattle.txn_replay.proofs.RunLaws.FairRuns.{reached_sound}
+use Rattle.txn_replay.proofs.CardLaws.ExchangeLosses.{losses_told}
+use Rattle.txn_replay.proofs.RunLaws.TurnsEnd.{idle_stays}
 use Rattle.txn_replay.proofs.laws.lanes_are_sound.Goals as goal
 
 pub returns-clause-sound : goal.returns-clause-sound

@@ -1,7 +1,7 @@
-use Rattle.txn_replay.proofs.LaneRuns.{carried_are_own, alone_is_own, lane_run_is_one}
-use Rattle.txn_replay.proofs.OwnEvents.{steps_come_apart}
-use Rattle.txn_replay.proofs.OwnRuns.{first_parts}
-use Rattle.txn_replay.proofs.OwnReports.{lanes_stand_alone}
+use Rattle.txn_replay.proofs.AloneLaws.LaneRuns.{carried_are_own, alone_is_own, lane_run_is_one}
+use Rattle.txn_replay.proofs.AloneLaws.OwnEvents.{steps_come_apart}
+use Rattle.txn_replay.proofs.AloneLaws.OwnRuns.{first_parts}
+use Rattle.txn_replay.proofs.AloneLaws.OwnReports.{lanes_stand_alone}
 use Rattle.txn_replay.proofs.laws.lanes_stand_alone.Goals as goal
 
 pub returns-clause-alone : goal.returns-clause-alone

@@ -1,4 +1,4 @@
-use Rattle.txn_replay.proofs.Lost.{losses_are_told, whole_losses}
+use Rattle.txn_replay.proofs.CardLaws.CardLosses.{losses_are_told, whole_losses}
 use Rattle.txn_replay.proofs.laws.losses_are_told.Goals as goal
 
 pub returns-clause-reached : goal.returns-clause-reached

@@ -1,4 +1,4 @@
-use Rattle.txn_replay.proofs.SameTotals.{pages_tell}
+use Rattle.txn_replay.proofs.CardLaws.SamePages.{pages_tell}
 use Rattle.txn_replay.proofs.laws.pages_tell_totals.Goals as goal
 
 pub returns : goal.returns

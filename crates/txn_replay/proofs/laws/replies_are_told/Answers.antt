@@ -1,5 +1,5 @@
-use Rattle.txn_replay.proofs.Hearing.{replies_told, pasts_end}
-use Rattle.txn_replay.proofs.Messaging.{messages_are_told}
+use Rattle.txn_replay.proofs.LineLaws.RepliesTold.{replies_told, pasts_end}
+use Rattle.txn_replay.proofs.LineLaws.MessagesTold.{messages_are_told}
 use Rattle.txn_replay.proofs.laws.replies_are_told.Goals as goal
 
 pub returns-clause-replies : goal.returns-clause-replies

@@ -1,4 +1,4 @@
-use Rattle.txn_replay.proofs.Unique.{none_is_open, run_is_one}
+use Rattle.txn_replay.proofs.RunLaws.OneRun.{none_is_open, run_is_one}
 use Rattle.txn_replay.proofs.laws.run_is_one.Goals as goal
 
 pub returns-clause-closed : goal.returns-clause-closed

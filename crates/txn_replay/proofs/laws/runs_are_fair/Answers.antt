@@ -1,4 +1,4 @@
-use Rattle.txn_replay.proofs.Fairness.{reached_fair, whole_fair}
+use Rattle.txn_replay.proofs.RunLaws.FairRuns.{reached_fair, whole_fair}
 use Rattle.txn_replay.proofs.laws.runs_are_fair.Goals as goal
 
 pub returns-clause-reached : goal.returns-clause-reached

@@ -1,6 +1,6 @@
-use Rattle.txn_replay.proofs.Fairness.{reached_few, reached_settlements}
-use Rattle.txn_replay.proofs.Few.{checks_few}
-use Rattle.txn_replay.proofs.Waiting.{stuck_over, calm_over}
+use Rattle.txn_replay.proofs.RunLaws.FairRuns.{reached_few, reached_settlements}
+use Rattle.txn_replay.proofs.RunLaws.FewEvents.{checks_few}
+use Rattle.txn_replay.proofs.RunLaws.TurnsEnd.{stuck_over, calm_over}
 use Rattle.txn_replay.proofs.laws.runs_end.Goals as goal
 
 pub returns-clause-stuck : goal.returns-clause-stuck

@@ -1,5 +1,5 @@
-use Rattle.txn_replay.proofs.Stores.{stores_stand}
-use Rattle.txn_replay.proofs.Through.{goes_through, stores_emptied}
+use Rattle.txn_replay.proofs.StoreLaws.StoresKept.{stores_stand}
+use Rattle.txn_replay.proofs.StoreLaws.StoresEmptied.{goes_through, stores_emptied}
 use Rattle.txn_replay.proofs.laws.stores_are_emptied.Goals as goal
 
 pub returns-clause-kept : goal.returns-clause-kept

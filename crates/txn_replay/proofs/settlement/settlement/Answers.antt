@@ -3,7 +3,7 @@ use Rattle.txn_replay.specs.Payment.{durable_of}
 use Rattle.txn_replay.specs.Settling.{steps_of, step_in, IsStepOf}
 use Rattle.txn_replay.specs.Steps.{Settlement, lane_settlements, settlements_from}
 use Rattle.txn_replay.proofs.Lists.{found_at, some_at}
-use Rattle.txn_replay.proofs.Steppings.{steps_count, step_found, own_step, later_step, no_steps}
+use Rattle.txn_replay.proofs.SettlementLaws.SettlementOfLane.{steps_count, step_found, own_step, later_step, no_steps}
 use Rattle.txn_replay.proofs.settlement.settlement.Goals as goal
 
 pub returns-then-left-steps : goal.returns-then-left-steps

@@ -2,7 +2,7 @@ use Rattle.std.proofs.Common.{◌≡◌, ℕ, zero, suc, ◌+◌, true, false, L
 use Rattle.std.specs.Prelude.{OnErr}
 use Rattle.auth_message.specs.Message.{message_of}
 use Rattle.host_link.proofs.Again.{not_new}
-use Rattle.issuer_host.specs.History.{HostStands, host_reply, is_new}
+use Rattle.issuer_host.specs.History.{HostStands, host_reply, is_new_message}
 use Rattle.report_text.specs.declared.line.Line.{Line}
 use Rattle.txn_replay.specs.Lines.{settle_lines}
 use Rattle.txn_replay.specs.Standing.{seen_payment}
@@ -12,15 +12,14 @@ use Rattle.txn_replay.proofs.storing.send_copies.Goals as goal
 
 pub loop-copy-init : goal.loop-copy-init
 loop-copy-init c = record {
-  lines = λ messages stood. c.requires.lines;
-  count = omega (arith, ap (λ (ls : List Line). length ls) c.requires.lines);
+  lines = λ messages stood. c.clear.ensures;
+  count = omega (arith, ap (λ (ls : List Line). length ls) c.clear.ensures);
   within = omega arith;
   end = refl;
-  few = c.requires.few_copies;
+  few = c.args.at.now.fits.few_copies;
   stands = λ messages stood. subst (λ (ms : List (List ℕ)). HostStands c.args.host.now ms) (sym (append-nil messages)) stood;
-  keys = refl;
-  accounts = refl;
-  first = λ none. (refl, c.requires.lines);
+  issuer = record { keys = refl; accounts = refl };
+  first = λ none. (refl, c.clear.ensures);
 }
 
 pub send-requires-clause-stands : goal.send-requires-clause-stands
@@ -34,9 +33,9 @@ loop-copy-preserved c =
     let message : List ℕ = c.args.message.now in
     record {
       lines = λ messages stood.
-          c.in_ok-send.ensures.lines (messages ++ replicate n message) (c.loop-copy.invariant.stands messages stood)
+          (c.in_ok-send.ensures.sent (messages ++ replicate n message) (c.loop-copy.invariant.stands messages stood)).0
           ∙ (λ i. c.loop-copy.invariant.lines messages stood i
-          ++ settle_lines p.iso p.lane message (host_reply (c.loop-copy.invariant.keys i) (c.loop-copy.invariant.accounts i) (messages ++ replicate n message) message))
+          ++ settle_lines p.iso p.lane message (host_reply (c.loop-copy.invariant.issuer.keys i) (c.loop-copy.invariant.issuer.accounts i) (messages ++ replicate n message) message))
           ∙ ap (λ k. copy_lines p message messages k) (let e : suc n ≡ n + 1 = omega arith in e);
       count = omega (arith, c.in_ok-send.ensures.two, c.loop-copy.invariant.count);
       within = omega arith;
@@ -44,9 +43,11 @@ loop-copy-preserved c =
       few = c.loop-copy.invariant.few;
       stands = λ messages stood.
           subst (λ (ms : List (List ℕ)). HostStands c.send.new.host ms) (append_assoc messages (replicate n message) (message ∷ []) ∙ ap (λ (ms : List (List ℕ)). messages ++ ms) (replicate_more n message))
-          (c.in_ok-send.ensures.stands (messages ++ replicate n message) (c.loop-copy.invariant.stands messages stood));
-      keys = c.send.ensures.keys ∙ c.loop-copy.invariant.keys;
-      accounts = c.send.ensures.accounts ∙ c.loop-copy.invariant.accounts;
+          (c.in_ok-send.ensures.sent (messages ++ replicate n message) (c.loop-copy.invariant.stands messages stood)).1;
+      issuer = record {
+        keys = c.send.ensures.issuer.keys ∙ c.loop-copy.invariant.issuer.keys;
+        accounts = c.send.ensures.issuer.accounts ∙ c.loop-copy.invariant.issuer.accounts;
+      };
       first = λ none. absurd (omega (arith, none));
     }
 
@@ -70,7 +71,7 @@ returns-in_err-send-clause-err c = on_err c.from_residual.result (by c.loop-copy
         (ap (λ k. c.requires.stands.0 ++ replicate k message) (is ∙ (let e : suc n ≡ n + 1 = omega arith in e)) ∙ ap (λ (ms : List (List ℕ)). c.requires.stands.0 ++ ms) (sym (replicate_more n message))
         ∙ sym (append_assoc c.requires.stands.0 (replicate n message) (message ∷ [])))
         (c.loop-copy.invariant.stands c.requires.stands.0 c.requires.stands.1) in
-        let again : is_new c.loop-copy.host.books (message_of message) ≡ false = not_new c.loop-copy.host before message stood in
-        let new : is_new c.loop-copy.host.books (message_of message) ≡ true = c.in_err-send.ensures.memory in
+        let again : is_new_message c.loop-copy.host.books (message_of message) ≡ false = not_new c.loop-copy.host before message stood in
+        let new : is_new_message c.loop-copy.host.books (message_of message) ≡ true = c.in_err-send.ensures.memory in
         let never : true ≡ false = sym new ∙ again in
         cc

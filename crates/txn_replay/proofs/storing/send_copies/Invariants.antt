@@ -1,6 +1,6 @@
 use Rattle.std.proofs.Common.{◌≡◌, ◌≤◌, ◌*◌, ℕ, List, [], ◌++◌, length, replicate}
 use Rattle.issuer_host.specs.History.{HostStands}
-use Rattle.txn_replay.specs.Standing.{seen_payment}
+use Rattle.txn_replay.specs.Standing.{KeepsIssuer, seen_payment}
 use Rattle.txn_replay.specs.Storing.{copy_lines}
 use Rattle.txn_replay.proofs.storing.send_copies.Given as goal
 
@@ -13,7 +13,6 @@ invariant-loop-copy l = record {
   end : l._copy-end ≡ l.at.copies;
   few : l._copy-end ≤ 3;
   stands : (messages : List (List ℕ)) → HostStands l.fn.host messages → HostStands l.host (messages ++ replicate l._copy l.message);
-  keys : l.host.keys ≡ l.fn.host.keys;
-  accounts : l.host.accounts ≡ l.fn.host.accounts;
+  issuer : KeepsIssuer l.fn.host l.host;
   first : l._copy ≡ 0 → (l.host ≡ l.fn.host) × (l.lines.items ≡ []);
 }

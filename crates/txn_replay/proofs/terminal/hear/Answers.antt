@@ -1,7 +1,7 @@
 use Rattle.std.proofs.Common.{[], ◌∷◌, ◌++◌}
 use Rattle.std.specs.Prelude.{option_map}
 use Rattle.kernel.specs.Reply.{from_host}
-use Rattle.txn_replay.proofs.Requests.{taken_as}
+use Rattle.txn_replay.proofs.CaptureLaws.NoRequestCaptured.{taken_as}
 use Rattle.txn_replay.proofs.terminal.hear.Goals as goal
 
 pub returns-clause-taken : goal.returns-clause-taken

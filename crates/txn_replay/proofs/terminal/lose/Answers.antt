@@ -1,6 +1,6 @@
 use Rattle.std.proofs.Common.{[], ◌∷◌, ◌++◌}
 use Rattle.kernel.specs.Reply.{CardGone}
-use Rattle.txn_replay.proofs.Requests.{taken_as}
+use Rattle.txn_replay.proofs.CaptureLaws.NoRequestCaptured.{taken_as}
 use Rattle.txn_replay.proofs.terminal.lose.Goals as goal
 
 pub returns-clause-taken : goal.returns-clause-taken

@@ -1,6 +1,6 @@
 use Rattle.std.proofs.Common.{◌≡◌, ◌<◌, length, arith}
 use Rattle.std.specs.Prelude.{slice_get, Some}
-use Rattle.card_files.specs.Kept.{KeepsRules}
+use Rattle.card_files.specs.ImageRules.{KeepsRules}
 use Rattle.card_files.specs.Views.{AppData}
 use Rattle.card_files.proofs.ControlItems.{is_fci}
 use Rattle.card_files.proofs.SizeLemmas.{label_size, pdol_size, lookup}

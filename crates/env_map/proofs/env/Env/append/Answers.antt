@@ -1,6 +1,6 @@
 use Rattle.std.proofs.Common.{◌≡◌, ◌<◌, ◌∙◌, sym, length, arith, None, Ok, ap}
 use Rattle.std.specs.List.{AllByRecursion}
-use Rattle.env_map.specs.Entries.{value_of, with_entry}
+use Rattle.env_map.specs.Entries.{value_of, with_object}
 use Rattle.env_map.specs.Inside.{entries}
 use Rattle.env_map.proofs.EntryLemmas.{length-entries_of, size_of_values-entries_of, value_of-below, put_of-many, put_of-long, put_of-fits, IsRising-with, entries_of-behind, filled-behind, put_of-puts}
 use Rattle.env_map.proofs.env.Env.append.Goals as goal
@@ -29,7 +29,7 @@ is_absent : (c : goal.After-push) → value_of c.args.tag.0 (entries c.self.insi
 is_absent c = value_of-below c.args.tag.0 (entries c.self.inside) (below c)
 
 -- the entries as the call leaves them
-is_with_entry : (c : goal.After-push) → entries (record { bytes = c.append.new.out; places = c.push.new.self }) ≡ with_entry c.args.tag.0 c.args.value.now (entries c.self.inside)
+is_with_entry : (c : goal.After-push) → entries (record { bytes = c.append.new.out; places = c.push.new.self }) ≡ with_object c.args.tag.0 c.args.value.now (entries c.self.inside)
 is_with_entry c =
     entries_of-behind c.self.inside.bytes.items c.args.value.now c.append.new.out.items c.self.inside.places.items c.push.new.self.items c.args.tag
     c.self.invariant.filled (below c) c.append.ensures.items c.push.ensures.items

@@ -1,5 +1,5 @@
 use Rattle.std.proofs.Common.{◌≡◌, ◌<◌, ◌∙◌, sym, length, arith, None, Ok, ap}
-use Rattle.env_map.specs.Entries.{value_of, with_entry}
+use Rattle.env_map.specs.Entries.{value_of, with_object}
 use Rattle.env_map.specs.Inside.{entries}
 use Rattle.env_map.proofs.EntryLemmas.{length-entries_of, size_of_values-entries_of, absent, put_of-many, put_of-long, put_of-fits, IsRising-with, entries_of-put, filled-put, length-bytes_with, put_of-puts}
 use Rattle.env_map.proofs.env.Env.insert.Goals as goal
@@ -23,7 +23,7 @@ returns-then-remaining_capacity-value-clause-exact c =
     rw (← c.self.view_is) (put_of-long c.args.tag c.args.value.now (entries c.self.inside) none (omega arith) (omega arith))
 
 -- the entries as the call leaves them
-is_with_entry : (c : goal.After-insert) → entries (record { bytes = c.insert_bytes.new.bytes; places = c.insert.new.self }) ≡ with_entry c.args.tag.0 c.args.value.now (entries c.self.inside)
+is_with_entry : (c : goal.After-insert) → entries (record { bytes = c.insert_bytes.new.bytes; places = c.insert.new.self }) ≡ with_object c.args.tag.0 c.args.value.now (entries c.self.inside)
 is_with_entry c =
     let filled = c.self.invariant.filled in
     let is_index = rw c.deref-3.ensures.0 at c.slot_for-slot.ensures.index in

@@ -2,7 +2,7 @@ use Rattle.std.proofs.Common.{map, refl, sym, ap, ◌∙◌}
 use Rattle.std.specs.Prelude.{option_map}
 use Rattle.host_ledger.specs.Entries.{entry_at, with_entry}
 use Rattle.host_ledger.specs.declared.rows.Row.{Row}
-use Rattle.host_ledger.specs.Kept.{kept_entry}
+use Rattle.host_ledger.specs.KeptEntries.{kept_entry}
 use Rattle.host_ledger.proofs.Tables.{as_entry, entry_found, entry_kept}
 use Rattle.host_ledger.proofs.rows.Rows.put.Goals as goal
 

@@ -2,7 +2,7 @@ use Rattle.std.proofs.Common.{◌≡◌, ℕ, List, Ok, refl, sym, ap, subst, �
 use Rattle.std.specs.Option.{is_none}
 use Rattle.auth_message.specs.Message.{message_of}
 use Rattle.auth_message.specs.declared.message.Incoming.{Incoming}
-use Rattle.issuer_host.specs.History.{HostStands, is_new}
+use Rattle.issuer_host.specs.History.{HostStands, is_new_message}
 use Rattle.auth_message.specs.Whole.{IsReply}
 use Rattle.issuer_host.specs.declared.code.Code.TheVariants.{Declined}
 use Rattle.issuer_host.proofs.Histories.{replied, stands_after}
@@ -61,17 +61,17 @@ answer_reversal-requires c = rw c.in-Reverse.is at c.in-Ok.ensures.amount
 pub returns-in-Request-clause-memory : goal.returns-in-Request-clause-memory
 returns-in-Request-clause-memory c =
     let is : message_of c.args.message.now ≡ Ok c.in-Ok.incoming = c.in-Ok.ensures.value in
-    on_err_map c.answer_request.result (λ none. ap (is_new c.args.self.now.books) (is ∙ ap (λ (x : Incoming). Ok x) c.in-Request.is) ∙ ap is_none none) c.answer_request.ensures.memory
+    on_err_map c.answer_request.result (λ none. ap (is_new_message c.args.self.now.books) (is ∙ ap (λ (x : Incoming). Ok x) c.in-Request.is) ∙ ap is_none none) c.answer_request.ensures.memory
 
 pub returns-in-Present-clause-memory : goal.returns-in-Present-clause-memory
 returns-in-Present-clause-memory c =
     let is : message_of c.args.message.now ≡ Ok c.in-Ok.incoming = c.in-Ok.ensures.value in
-    on_err_map c.answer_presentment.result (λ none. ap (is_new c.args.self.now.books) (is ∙ ap (λ (x : Incoming). Ok x) c.in-Present.is) ∙ ap is_none none) c.answer_presentment.ensures.memory
+    on_err_map c.answer_presentment.result (λ none. ap (is_new_message c.args.self.now.books) (is ∙ ap (λ (x : Incoming). Ok x) c.in-Present.is) ∙ ap is_none none) c.answer_presentment.ensures.memory
 
 pub returns-in-Reverse-clause-memory : goal.returns-in-Reverse-clause-memory
 returns-in-Reverse-clause-memory c =
     let is : message_of c.args.message.now ≡ Ok c.in-Ok.incoming = c.in-Ok.ensures.value in
-    on_err_map c.answer_reversal.result (λ none. ap (is_new c.args.self.now.books) (is ∙ ap (λ (x : Incoming). Ok x) c.in-Reverse.is) ∙ ap is_none none) c.answer_reversal.ensures.memory
+    on_err_map c.answer_reversal.result (λ none. ap (is_new_message c.args.self.now.books) (is ∙ ap (λ (x : Incoming). Ok x) c.in-Reverse.is) ∙ ap is_none none) c.answer_reversal.ensures.memory
 
 pub returns-in-Err-clause-written : goal.returns-in-Err-clause-written
 returns-in-Err-clause-written c = λ messages stands. subst IsReply (sym c.plain.ensures.bytes) (plain_written Declined)

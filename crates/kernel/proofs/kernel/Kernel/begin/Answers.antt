@@ -4,8 +4,8 @@ use Rattle.kernel.proofs.kernel.Kernel.begin.Goals as goal
 
 pub invariant_of-result : goal.invariant_of-result
 invariant_of-result c = record {
-  deal = record { settings = c.requires.settings; purchase = c.requires.purchase };
-  stage = (c.begin-opening.ensures.fits _ c.new.ensures c.new-3.ensures c.new-2.ensures, c.none-2.ensures);
+  outset = record { settings = c.requires.settings; purchase = c.requires.purchase };
+  stage = (c.begin-opening.ensures.fits _ c.new.ensures (record { outset = record { settings = c.requires.settings; purchase = c.requires.purchase }; empty = c.new-3.ensures; fresh = c.new-2.ensures }), c.none-2.ensures);
   over = λ spent. cc;
 }
 

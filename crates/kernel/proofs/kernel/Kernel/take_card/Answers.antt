@@ -1,23 +1,23 @@
 use Rattle.std.proofs.Common.{◌∙◌, ap}
-use Rattle.kernel.specs.Kernel.{KernelData, next_of}
+use Rattle.kernel.specs.Kernel.{KernelData, kernel_next}
 use Rattle.kernel.specs.declared.kernel.Next.TheVariants as next
 use Rattle.kernel.specs.Reply.{CardSaid}
 use Rattle.kernel.proofs.Took.{kernel_took, not_spent}
 use Rattle.kernel.proofs.kernel.Kernel.take_card.Goals as goal
 
 pub returns-clause-fresh : goal.returns-clause-fresh
-returns-clause-fresh c = not_spent (record { table = c.self.inside.table; card = c.self.inside.card; stage = c.self.inside.stage; taken = c.self.inside.taken; is_spent = c.self.inside.is_spent }) next.ToCard c.self.invariant (ap next_of c.self.view_is ∙ c.requires.waits) (λ is. cc)
+returns-clause-fresh c = not_spent (record { table = c.self.inside.table; card = c.self.inside.card; stage = c.self.inside.stage; taken = c.self.inside.taken; is_spent = c.self.inside.is_spent }) next.ToCard c.self.invariant (ap kernel_next c.self.view_is ∙ c.requires.waits) (λ is. cc)
 
 pub returns-clause-stands : goal.returns-clause-stands
 returns-clause-stands c = λ replies is.
     let i = c.self.inside in
     let k : KernelData = record { table = i.table; card = i.card; stage = i.stage; taken = i.taken; is_spent = i.is_spent } in
-    kernel_took k _ (CardSaid c.args.reply.now c.args.log.now) (λ before. c.args.log.now) replies c.stage_said.ensures.same c.saturating_add-self-inside.ensures
+    kernel_took k _ (CardSaid c.args.reply.now c.args.log.now) (λ before. c.args.log.now) replies c.stage_said.ensures.step.same c.saturating_add-self-inside.ensures
     c.stage_said.ensures.stands (rw (← c.self.view_is) at is)
 
 pub invariant_of-self : goal.invariant_of-self
 invariant_of-self c = record {
-  deal = rw c.stage_said.ensures.same c.self.invariant.deal;
-  stage = c.stage_said.ensures.fits;
+  outset = rw c.stage_said.ensures.step.same c.self.invariant.outset;
+  stage = c.stage_said.ensures.step.fits;
   over = λ spent. let fresh = returns-clause-fresh c in cc;
 }

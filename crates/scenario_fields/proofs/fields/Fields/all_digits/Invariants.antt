@@ -2,7 +2,7 @@ use Rattle.std.specs.List.{All}
 use Rattle.std.proofs.Common.{◌≡◌, ◌≤◌, drop, length}
 use Rattle.toml.specs.View.{items_view}
 use Rattle.scenario_fields.specs.Fields.{each, digits_item, with_front}
-use Rattle.scenario_fields.specs.Place.{path}
+use Rattle.scenario_fields.specs.TablePaths.{path}
 use Rattle.scenario_fields.proofs.fields.Fields.all_digits.Given as goal
 
 abbrev pub invariant-loop-value : goal.invariant-loop-value

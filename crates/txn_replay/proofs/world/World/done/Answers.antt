@@ -2,16 +2,16 @@ use Rattle.std.proofs.Common.{◌≡◌, length, map, sym, ap, ◌∙◌, subst}
 use Rattle.scenario.specs.Plan.{ScenarioData}
 use Rattle.txn_replay.specs.Run.{all_over}
 use Rattle.txn_replay.specs.Seen.{WorldSeen, WorldStands, done_below}
-use Rattle.txn_replay.proofs.Values.{done_is}
+use Rattle.txn_replay.proofs.TurnLaws.WorldTold.{done_is}
 use Rattle.txn_replay.proofs.world.World.done.Goals as goal
 
 pub returns-clause-over : goal.returns-clause-over
 returns-clause-over g c = λ w stands.
     let v : WorldSeen = record {
       scenario = c.self.inside.scenario.now;
-      slots = c.self.inside.slots.items;
+      run_cards = c.self.inside.run_cards.items;
       lanes = c.self.inside.lanes.items;
-      shelves = c.self.inside.shelves.items;
+      lane_stores = c.self.inside.lane_stores.items;
       host = c.self.inside.common.host;
       tally = c.self.inside.common.tally;
       spare = map g.P.Pages.memory c.self.inside.spare.items;

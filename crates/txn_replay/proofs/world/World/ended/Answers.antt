@@ -4,7 +4,7 @@ use Rattle.std.specs.List.{sum_by}
 use Rattle.scenario_lanes.specs.Plan.{purchase_count}
 use Rattle.txn_replay.specs.Run.{ended_count}
 use Rattle.txn_replay.specs.declared.lane.Lane.{Lane}
-use Rattle.txn_replay.proofs.Values.{ended_is, ended_few}
+use Rattle.txn_replay.proofs.TurnLaws.WorldTold.{ended_is, ended_few}
 use Rattle.txn_replay.proofs.world.World.ended.Goals as goal
 
 pub all_ended-requires : goal.all_ended-requires
@@ -13,9 +13,9 @@ all_ended-requires g c =
     let stands = c.self.invariant.0.standing.1 in
     let v : WorldSeen = record {
       scenario = c.self.inside.scenario.now;
-      slots = c.self.inside.slots.items;
+      run_cards = c.self.inside.run_cards.items;
       lanes = c.self.inside.lanes.items;
-      shelves = c.self.inside.shelves.items;
+      lane_stores = c.self.inside.lane_stores.items;
       host = c.self.inside.common.host;
       tally = c.self.inside.common.tally;
       spare = map g.P.Pages.memory c.self.inside.spare.items;
@@ -30,9 +30,9 @@ pub returns : goal.returns
 returns g c = λ w stands.
     let v : WorldSeen = record {
       scenario = c.self.inside.scenario.now;
-      slots = c.self.inside.slots.items;
+      run_cards = c.self.inside.run_cards.items;
       lanes = c.self.inside.lanes.items;
-      shelves = c.self.inside.shelves.items;
+      lane_stores = c.self.inside.lane_stores.items;
       host = c.self.inside.common.host;
       tally = c.self.inside.common.tally;
       spare = map g.P.Pages.memory c.self.inside.spare.items;

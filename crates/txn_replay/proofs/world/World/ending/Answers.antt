@@ -7,9 +7,9 @@ pub returns : goal.returns
 returns g c = λ w stands.
     let v : WorldSeen = record {
       scenario = c.self.inside.scenario.now;
-      slots = c.self.inside.slots.items;
+      run_cards = c.self.inside.run_cards.items;
       lanes = c.self.inside.lanes.items;
-      shelves = c.self.inside.shelves.items;
+      lane_stores = c.self.inside.lane_stores.items;
       host = c.self.inside.common.host;
       tally = c.self.inside.common.tally;
       spare = map g.P.Pages.memory c.self.inside.spare.items;

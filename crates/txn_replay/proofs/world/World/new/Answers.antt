@@ -12,8 +12,8 @@ use Rattle.scenario_lanes.specs.Plan.{LaneData, HaveRoom}
 use Rattle.txn_replay.specs.Banked.{AreNew, AreNewStores}
 use Rattle.txn_replay.specs.Seen.{WorldSeen, WorldStands}
 use Rattle.txn_replay.specs.World.{first_world}
-use Rattle.txn_replay.proofs.Founding.{first_stands, fit_all}
-use Rattle.txn_replay.proofs.Giving.{all_stores}
+use Rattle.txn_replay.proofs.TurnLaws.FirstValue.{first_stands, fit_all}
+use Rattle.txn_replay.proofs.PageLaws.StorePagesBack.{all_stores}
 use Rattle.txn_replay.proofs.world.World.new.Goals as goal
 
 pub take_pages-requires-clause-kinds : goal.take_pages-requires-clause-kinds
@@ -38,9 +38,9 @@ pub invariant_of-result : goal.invariant_of-result
 invariant_of-result g c =
     let v : WorldSeen = record {
       scenario = c.args.scenario.now;
-      slots = c.take_pages.new.slots.items;
+      run_cards = c.take_pages.new.run_cards.items;
       lanes = c.in-Ok-new_lanes.lanes.items;
-      shelves = c.take_stores.new.shelves.items;
+      lane_stores = c.take_stores.new.lane_stores.items;
       host = c.in-Ok.host;
       tally = c.new-2.result;
       spare = map g.P.Pages.memory c.take_pages.new.bank.items;
@@ -48,40 +48,40 @@ invariant_of-result g c =
     let cards : seen_cards c.as_slice-cards.result.now ≡ c.args.scenario.now.cards =
     ap (λ (xs : List NamedCard). seen_cards xs) c.as_slice-cards.ensures.value ∙ ap (λ (s : ScenarioData). s.cards) c.scenario.view_is in
     let lanes : c.as_slice-2.result.now ≡ c.args.scenario.now.lanes = c.as_slice-2.ensures.value ∙ ap (λ (s : ScenarioData). s.lanes) c.scenario.view_is in
-    let shelf_count : length v.shelves ≡ length v.scenario.lanes =
-    sym c.take_stores.new.shelves.ok.0 ∙ c.take_stores.ensures.count ∙ ap (λ (ls : List LaneData). length ls) lanes in
+    let lane_store_count : length v.lane_stores ≡ length v.scenario.lanes =
+    sym c.take_stores.new.lane_stores.ok.0 ∙ c.take_stores.ensures.count ∙ ap (λ (ls : List LaneData). length ls) lanes in
     let stands : WorldStands v (first_world v.scenario) =
-    first_stands v (subst (λ (xs : List CardData). AreNew xs c.take_pages.new.slots.items) cards c.take_pages.ensures.new) c.in-Ok-new_lanes.ensures.new
-    shelf_count (subst (λ (xs : List LaneData). AreNewStores xs c.take_stores.new.shelves.items) lanes c.take_stores.ensures.new)
+    first_stands v (subst (λ (xs : List CardData). AreNew xs c.take_pages.new.run_cards.items) cards c.take_pages.ensures.new) c.in-Ok-new_lanes.ensures.new
+    lane_store_count (subst (λ (xs : List LaneData). AreNewStores xs c.take_stores.new.lane_stores.items) lanes c.take_stores.ensures.new)
     c.in-Ok.ensures.stands c.new-2.ensures in
     let count : length v.scenario.cards ≡ length c.as_slice-cards.result.now =
     ap (λ (cs : List CardData). length cs) (sym cards) ∙ length-map c.as_slice-cards.result.now seen_card in
     let spare : length v.spare ≡ length c.take_pages.new.bank.items = length-map c.take_pages.new.bank.items g.P.Pages.memory in (
       record {
         scenario = c.requires.scenario;
-        slot_count = sym c.take_pages.new.slots.ok.0 ∙ c.take_pages.ensures.count ∙ sym count;
+        run_card_count = sym c.take_pages.new.run_cards.ok.0 ∙ c.take_pages.ensures.count ∙ sym count;
         lane_count =
             sym c.in-Ok-new_lanes.lanes.ok.0 ∙ c.in-Ok-new_lanes.ensures.count ∙ c.len.ensures ∙ c.scenario.inside.lanes.ok.0
             ∙ ap (λ (s : ScenarioData). length s.lanes) c.scenario.view_is;
-        shelf_count = shelf_count;
+        lane_store_count = lane_store_count;
         fits = fit_all c.in-Ok-new_lanes.lanes.items c.in-Ok-new_lanes.ensures.new;
         keys = c.in-Ok.ensures.keys ∙ c.keys_of-keys.ensures ∙ ap (λ (s : ScenarioData). s.issuer) c.scenario.view_is;
         accounts = c.in-Ok.ensures.accounts ∙ c.as_slice.ensures.value ∙ ap (λ (s : ScenarioData). s.accounts) c.scenario.view_is;
         blank = subst (λ (ms : List Memory). All IsBlank ms) (sym c.take_pages.ensures.spare)
-            (All-drop IsBlank (length c.as_slice-cards.result.now) (map g.P.Pages.memory c.take_stores.new.bank.items) c.take_stores.ensures.blank);
-        pages = omega (arith, count, spare, all_stores v (first_world v.scenario) stands shelf_count, c.take_stores.ensures.pages, c.take_pages.ensures.place, c.take_pages.new.bank.ok.0);
+            (All-drop IsBlank (length c.as_slice-cards.result.now) (map g.P.Pages.memory c.take_stores.new.bank.items) c.take_stores.ensures.bank.blank);
+        pages = omega (arith, count, spare, all_stores v (first_world v.scenario) stands lane_store_count, c.take_stores.ensures.pages, c.take_pages.ensures.place, c.take_pages.new.bank.ok.0);
         standing = (first_world v.scenario, stands);
       },
-      omega (arith, c.take_pages.ensures.capacity, c.take_stores.ensures.capacity, c.requires.pages, c.args.bank.ok.0, c.args.bank.ok.1),
+      omega (arith, c.take_pages.ensures.capacity, c.take_stores.ensures.bank.same, c.requires.pages, c.args.bank.ok.0, c.args.bank.ok.1),
     )
 
 pub returns-clause-stands : goal.returns-clause-stands
 returns-clause-stands g c =
     let v : WorldSeen = record {
       scenario = c.args.scenario.now;
-      slots = c.take_pages.new.slots.items;
+      run_cards = c.take_pages.new.run_cards.items;
       lanes = c.in-Ok-new_lanes.lanes.items;
-      shelves = c.take_stores.new.shelves.items;
+      lane_stores = c.take_stores.new.lane_stores.items;
       host = c.in-Ok.host;
       tally = c.new-2.result;
       spare = map g.P.Pages.memory c.take_pages.new.bank.items;
@@ -89,10 +89,10 @@ returns-clause-stands g c =
     let cards : seen_cards c.as_slice-cards.result.now ≡ c.args.scenario.now.cards =
     ap (λ (xs : List NamedCard). seen_cards xs) c.as_slice-cards.ensures.value ∙ ap (λ (s : ScenarioData). s.cards) c.scenario.view_is in
     let lanes : c.as_slice-2.result.now ≡ c.args.scenario.now.lanes = c.as_slice-2.ensures.value ∙ ap (λ (s : ScenarioData). s.lanes) c.scenario.view_is in
-    let shelf_count : length v.shelves ≡ length v.scenario.lanes =
-    sym c.take_stores.new.shelves.ok.0 ∙ c.take_stores.ensures.count ∙ ap (λ (ls : List LaneData). length ls) lanes in
+    let lane_store_count : length v.lane_stores ≡ length v.scenario.lanes =
+    sym c.take_stores.new.lane_stores.ok.0 ∙ c.take_stores.ensures.count ∙ ap (λ (ls : List LaneData). length ls) lanes in
     let stands : WorldStands v (first_world v.scenario) =
-    first_stands v (subst (λ (xs : List CardData). AreNew xs c.take_pages.new.slots.items) cards c.take_pages.ensures.new) c.in-Ok-new_lanes.ensures.new
-    shelf_count (subst (λ (xs : List LaneData). AreNewStores xs c.take_stores.new.shelves.items) lanes c.take_stores.ensures.new)
+    first_stands v (subst (λ (xs : List CardData). AreNew xs c.take_pages.new.run_cards.items) cards c.take_pages.ensures.new) c.in-Ok-new_lanes.ensures.new
+    lane_store_count (subst (λ (xs : List LaneData). AreNewStores xs c.take_stores.new.lane_stores.items) lanes c.take_stores.ensures.new)
     c.in-Ok.ensures.stands c.new-2.ensures in
     stands

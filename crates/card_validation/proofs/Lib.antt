@@ -1,6 +1,0 @@
-mod Clashes
-mod Services
-mod Wholes
-mod Opening
-mod Walking
-mod Readiness

@@ -1,5 +1,0 @@
-use Rattle.std.proofs.Common.{length}
-use Rattle.card_validation.proofs.clashing.+clash_with.Given as goal
-
-abbrev pub decreases-clash_with : goal.decreases-clash_with
-decreases-clash_with l = length l.others.now

@@ -1,3 +1,0 @@
-pub mod Judged
-pub mod Reasons
-pub mod Decided

@@ -1,4 +1,0 @@
-pub mod Cards
-pub mod Told
-pub mod WellFormed
-pub mod Laws

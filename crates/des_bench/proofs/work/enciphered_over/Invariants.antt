@@ -1,7 +1,0 @@
-use Rattle.std.proofs.Common.{◌≡◌, replicate}
-use Rattle.triple_des.specs.Des.{enciphered}
-use Rattle.des_bench.specs.Work.{repeated}
-use Rattle.des_bench.proofs.work.enciphered_over.Given as goal
-
-abbrev pub invariant-loop-done : goal.invariant-loop-done
-invariant-loop-done l = l.block ≡ repeated l._done (enciphered l.des) (replicate 8 0)

@@ -1,5 +1,0 @@
-use Rattle.dialogue_law.proofs.Shadows.{shadows_do_not_come}
-use Rattle.dialogue_law.proofs.shadows_do_not_come.Goals as goal
-
-pub returns : goal.returns
-returns c = shadows_do_not_come

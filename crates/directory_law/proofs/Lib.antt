@@ -1,9 +1,0 @@
-mod Courses
-mod Reading
-mod ListSteps
-mod Finding
-mod Names
-mod Order
-mod Owned
-mod Firsts
-mod Agreed

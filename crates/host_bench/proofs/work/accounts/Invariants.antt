@@ -1,6 +1,0 @@
-use Rattle.std.specs.List.{All}
-use Rattle.issuer_host.specs.Account.{IsAccount}
-use Rattle.host_bench.proofs.work.accounts.Given as goal
-
-abbrev pub invariant-loop-place : goal.invariant-loop-place
-invariant-loop-place l = All IsAccount l.accounts.items

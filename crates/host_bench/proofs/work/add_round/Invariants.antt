@@ -1,6 +1,0 @@
-use Rattle.std.proofs.Common.{◌≤◌, length}
-use Rattle.std.specs.List.{All}
-use Rattle.host_bench.proofs.work.add_round.Given as goal
-
-abbrev pub invariant-loop-place : goal.invariant-loop-place
-invariant-loop-place l = All (λ r. length r.items ≤ 2048) l.requests.items

@@ -1,6 +1,0 @@
-use Rattle.std.proofs.Common.{ℕ, List, ◌++◌, map, take}
-use Rattle.issuer_host.specs.History.{HostStands}
-use Rattle.host_bench.proofs.work.answer_all.Given as goal
-
-abbrev pub invariant-loop-message : goal.invariant-loop-message
-invariant-loop-message l = (before : List (List ℕ)) → HostStands l.fn.host before → HostStands l.host (before ++ map (λ m. m.items) (take l.message-index l.messages))

@@ -1,6 +1,0 @@
-use Rattle.lane_words.specs.Statuses.{answer_word}
-use Rattle.lane_words.proofs.status.answer_word.Goals as goal
-
-pub returns : goal.returns
-unfolding answer_word
-returns c = c.word_of.ensures

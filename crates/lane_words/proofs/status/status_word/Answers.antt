@@ -1,6 +1,0 @@
-use Rattle.lane_words.specs.Statuses.{status_word}
-use Rattle.lane_words.proofs.status.status_word.Goals as goal
-
-pub returns : goal.returns
-unfolding status_word
-returns c = c.word_of.ensures

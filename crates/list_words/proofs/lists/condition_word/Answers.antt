@@ -1,6 +1,0 @@
-use Rattle.list_words.specs.Rules.{condition_word}
-use Rattle.list_words.proofs.lists.condition_word.Goals as goal
-
-pub returns : goal.returns
-unfolding condition_word
-returns c = c.word_of.ensures

@@ -1,6 +1,0 @@
-use Rattle.std.proofs.Common.{◌≡◌, drop, false}
-use Rattle.list_words.specs.Digits.{are_filled}
-use Rattle.list_words.proofs.plain.are_filled.Given as goal
-
-abbrev pub invariant-loop-byte : goal.invariant-loop-byte
-invariant-loop-byte l = are_filled l.filler (drop l.byte-index l.value) ≡ are_filled false l.value

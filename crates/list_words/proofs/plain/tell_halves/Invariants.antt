@@ -1,8 +1,0 @@
-use Rattle.std.proofs.Common.{drop}
-use Rattle.std.specs.List.{flat_map}
-use Rattle.word_lines.proofs.Telling.{Left}
-use Rattle.list_words.specs.Digits.{pair_words}
-use Rattle.list_words.proofs.plain.tell_halves.Given as goal
-
-abbrev pub invariant-loop-byte : goal.invariant-loop-byte
-invariant-loop-byte l = Left l.fn.out l.out (flat_map pair_words l.value) (flat_map pair_words (drop l.byte-index l.value))

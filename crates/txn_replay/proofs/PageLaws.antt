@@ -1,0 +1,3 @@
+-- Lemmas on the pages that cards and stores take and give back.
+pub mod StorePagesBack
+pub mod CardPagesBack

@@ -1,0 +1,18 @@
+use Rattle.std.proofs.Common.{codes, arith}
+use Rattle.report_lines.specs.Pieces.{text}
+use Rattle.report_lines.proofs.Telling.{left_start, left_more, left_as, left_end, bits_next, bits_end}
+use Rattle.value_words.specs.ReasonWords.{bit_place_words}
+use Rattle.value_words.proofs.told.tell_bits.Goals as goal
+
+pub loop-place-init : goal.loop-place-init
+loop-place-init c = left_start _ _
+
+pub loop-place-preserved : goal.loop-place-preserved
+loop-place-preserved c =
+    let next = bits_next 40 (text (codes " ")) bit_place_words c.args.bits c.loop-place.told c.loop-place.place 40 (omega arith) in
+    rw c.tell_bit-told.ensures.result (left_more _ _ _ _ _ _ (left_as _ _ _ _ _ next c.loop-place.invariant) c.tell_bit-told.ensures.told)
+
+pub returns : goal.returns
+returns c =
+    let end = bits_end 40 (text (codes " ")) bit_place_words c.args.bits c.loop-place.told c.loop-place.place 40 (omega arith) in
+    left_end _ _ _ (left_as _ _ _ _ _ end c.loop-place.invariant)

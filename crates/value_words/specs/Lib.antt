@@ -1,0 +1,10 @@
+pub mod Codes
+pub mod Digits
+pub mod Fields
+pub mod Lists
+pub mod Plain
+pub mod Reasons
+pub mod Rules
+pub mod Statuses
+pub mod ReasonWords
+pub mod Words

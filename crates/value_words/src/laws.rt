@@ -1,0 +1,17 @@
+//! What the tables hold.
+ghost use Rattle.std.specs.Prelude.{◌≡◌, map, IsTrue};
+ghost use Rattle.emv_dict.specs.Dictionary.{dictionary};
+ghost use Rattle.value_words.specs.Words.{have_names, are_distinct_texts, are_distinct, tvr_bit_numbers};
+
+use crate::bits::RESULT_BITS;
+use crate::names::NAMES;
+
+/// What the tables hold: each object of the dictionary has a name, no two objects have one tag or one
+/// name, and each bit of the terminal verification results has its words.
+#[tactic(auto, unfolding(crate::specs::Words::tag_name_in, emv_dict::specs::Dictionary::dictionary))]
+pub fn tables_are_whole()
+    ensures named { IsTrue (have_names (map (λ n. (n.0, n.1.now, n.2)) NAMES) dictionary) }
+    ensures tags_once { IsTrue (are_distinct (map (λ n. n.0) NAMES)) }
+    ensures names_once { IsTrue (are_distinct_texts (map (λ n. n.1.now) NAMES)) }
+    ensures result_bits { map (λ w. w.0) RESULT_BITS ≡ tvr_bit_numbers }
+{}

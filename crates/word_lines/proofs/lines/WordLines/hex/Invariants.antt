@@ -1,9 +1,0 @@
-use Rattle.std.proofs.Common.{take}
-use Rattle.std.specs.List.{flat_map}
-use Rattle.word_lines.specs.Hex.{pair_text}
-use Rattle.word_lines.specs.Lines.{opened}
-use Rattle.word_lines.proofs.Growing.{IsGrown}
-use Rattle.word_lines.proofs.lines.WordLines.hex.Given as goal
-
-abbrev pub invariant-loop-byte : goal.invariant-loop-byte
-invariant-loop-byte l = IsGrown l.fn.self l.self (opened l.fn.self.bytes) (flat_map pair_text (take l.byte-index l.bytes))

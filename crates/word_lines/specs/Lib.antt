@@ -1,4 +1,0 @@
-pub mod Bits
-pub mod Hex
-pub mod Lines
-pub mod Pieces
