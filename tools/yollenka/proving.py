@@ -23,6 +23,8 @@ PREFIX = "proving-"
 LEFT = ("rlib", "incremental")
 # Bytes that a proof takes: at least, and for each line of the crates below and of the crate itself.
 LEAST, BELOW, OWN = 1_400_000_000, 80_000, 350_000
+# A proof by several processors takes this share more memory for each further one, and doesn't gain by more than so many.
+FURTHER, MOST_JOBS = 0.6, 4
 # Lines that are proved in a second of one processor, roughly.
 PACE = 9
 # Seconds after which it is looked again whether there is room.
@@ -137,17 +139,25 @@ class Prover:
     def __init__(self, builder, plan):
         self.builder, self.plan = builder, plan
         self.todo, self.done = list(plan.crates), set()
-        self.running, self.sessions, self.told = {}, {}, []
+        self.running, self.sessions, self.jobs, self.told = {}, {}, {}, []
         self.start, self.tool = time.monotonic(), builder.tool()
 
-    def has_room(self, crate):
-        """Whether a processor and memory are free for a crate; one crate may always run."""
-        if not self.running:
-            return True
-        if len(self.running) >= len(os.sched_getaffinity(0)):
-            return False
-        still = sum(max(0, self.plan.memory(one) - taken_memory(self.sessions.get(one, -1))) for one in self.running.values())
-        return free_memory() - still >= self.plan.memory(crate)
+    def needed(self, crate):
+        """The bytes that the proof of a running crate takes, roughly."""
+        return self.plan.memory(crate) * (1 + FURTHER * (self.jobs[crate] - 1))
+
+    def jobs_for(self, crate, ready):
+        """How many processors a crate's proof gets where so many wait, itself among them: 0 where one or memory is wanting.
+
+        It gets what no other crate waits for, as far as memory is free; one crate may always run.
+        """
+        idle = len(os.sched_getaffinity(0)) - sum(self.jobs[one] for one in self.running.values())
+        still = sum(max(0, self.needed(one) - taken_memory(self.sessions.get(one, -1))) for one in self.running.values())
+        room = free_memory() - still
+        needs = self.plan.memory(crate)
+        if self.running and (idle < 1 or room < needs):
+            return 0
+        return max(1, min(MOST_JOBS, idle // ready, 1 + int((room / needs - 1) / FURTHER)))
 
     def prove(self, crate):
         """Proves a crate in a room of its own; gives the status and what the toolchain wrote."""
@@ -158,7 +168,7 @@ class Prover:
             with workroom(out, PREFIX) as folder:
                 room = Room(folder, crate)
                 # It keeps the lock as long as it runs, also where this process is killed.
-                process = subprocess.Popen([self.tool, "lib", "--jobs", "1"], cwd=room.place(crate), text=True, errors="replace",
+                process = subprocess.Popen([self.tool, "lib", "--jobs", str(self.jobs[crate])], cwd=room.place(crate), text=True, errors="replace",
                                            stdin=subprocess.DEVNULL, stdout=subprocess.PIPE, stderr=subprocess.STDOUT,
                                            start_new_session=True, pass_fds=[lock])
                 self.sessions[crate] = process.pid
@@ -168,9 +178,12 @@ class Prover:
 
     def begin(self, pool):
         """Begins with as many crates as there is room for."""
-        for crate in self.plan.ready(self.todo, self.done):
-            if not self.has_room(crate):
+        ready = self.plan.ready(self.todo, self.done)
+        for at, crate in enumerate(ready):
+            jobs = self.jobs_for(crate, len(ready) - at)
+            if jobs == 0:
                 break
+            self.jobs[crate] = jobs
             self.todo.remove(crate)
             self.running[pool.submit(self.prove, crate)] = crate
         if self.told != list(self.running.values()):
@@ -182,7 +195,8 @@ class Prover:
         left = self.todo + list(self.running.values())
         longest = max((self.plan.row[crate] for crate in left), default=0)
         share = sum(self.plan.lines[crate] for crate in left) / max(1, len(self.running))
-        self.builder.tell(f"{minutes(self.start)}: {' '.join(self.running.values())}; {len(self.todo)} wait, "
+        at_work = " ".join(f"{crate}*{self.jobs[crate]}" if self.jobs[crate] > 1 else crate for crate in self.running.values())
+        self.builder.tell(f"{minutes(self.start)}: {at_work}; {len(self.todo)} wait, "
                           f"{len(self.done)} done; about {max(longest, share) / PACE / 60:.0f} min left")
 
     def end(self, future):
