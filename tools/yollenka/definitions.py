@@ -1,12 +1,10 @@
 """The definitions that public contracts cite, and the page that is made of the comments above them."""
 import functools
 import re
-import tomllib
 from typing import NamedTuple
 
 from yollenka.programs import ROOT
 
-TABLE = ROOT / "docs" / "inside" / "definitions.toml"
 SECTION = re.compile(r" ?\(((?:EMV|ISO|FIPS|Book \d|Annex|section)[^()]*|own|this project's own)\)")
 OWN = ("own", "this project's own")
 HIGHEST = ("emv_top", "txn_replay")
@@ -141,22 +139,21 @@ def sentence_and_section(text):
     return SECTION.sub("", text), "; ".join(found)
 
 
-def row(name, text, section=""):
+def row(name, text):
     """A row of the page."""
     said, named = sentence_and_section(text)
-    cells = (name, said.replace("|", r"\|"), "; ".join(filter(None, (named, section))))
-    return f"| {' | '.join(cells)} |"
+    said = said.replace("|", r"\|")
+    return f"| {name} | {said} | {named} |"
 
 
-def rows_of(file, known, places, seen, table):
+def rows_of(file, known, places, seen):
     """The row of a file and those of its definitions that contracts cite, in the file's order."""
     held = known[file]
     mark = " *run*" if file in seen else ""
-    yield row(f"**{file[1]}.antt**{mark}", held.head, table["sections"].get(key_of(file), ""))
+    yield row(f"**{file[1]}.antt**{mark}", held.head)
     for name, comment in held.comments.items():
         if Place(*file, name) in places:
-            key = key_of(file, name)
-            yield row(f"`{name}`", table["corrections"].get(key) or comment or table["sentences"].get(key, ""))
+            yield row(f"`{name}`", comment)
 
 
 def beginning(known, run, seen):
@@ -172,26 +169,18 @@ def beginning(known, run, seen):
 
 def page(known, crates):
     """What the page says behind its first lines."""
-    table = tomllib.loads(TABLE.read_text())
     places, run = cited(), cited_by_run()
     seen = reached(known, run)
     parts = list(beginning(known, run, seen))
     for crate in crates:
-        rows = [line for file in known if file[0] == crate for line in rows_of(file, known, places, seen, table)]
+        rows = [line for file in known if file[0] == crate for line in rows_of(file, known, places, seen)]
         if rows:
             parts.append(f"## {crate}")
             parts.append("\n".join(("| Definition | What it says | Standard |", "|---|---|---|", *rows)))
     return "\n\n".join(parts) + "\n"
 
 
-def table_faults(known):
-    """What the table lacks, and what it has that a comment says, or that nothing cites."""
-    table, places = tomllib.loads(TABLE.read_text()), cited()
-    silent = {key_of(place[:2], place.name) for place in places if not known[place[:2]].comments[place.name]}
-    told = {key_of(place[:2], place.name) for place in places} - silent
-    given = table["sentences"].keys()
-    yield from (f"definitions.toml lacks a sentence for {key}" for key in sorted(silent - given))
-    yield from (f"definitions.toml has a sentence too many: {key}" for key in sorted(given - silent))
-    yield from (f"definitions.toml corrects no comment: {key}" for key in sorted(table["corrections"].keys() - told))
-    nowhere = table["sections"].keys() - {key_of(file) for file in known}
-    yield from (f"definitions.toml has sections of no file: {key}" for key in sorted(nowhere))
+def silent(known):
+    """The definitions that public contracts cite without a comment above them."""
+    places = sorted(place for place in cited() if not known[place[:2]].comments[place.name])
+    yield from (f"no comment above {key_of(place[:2], place.name)}" for place in places)

@@ -1,7 +1,9 @@
--- The bytes of a command (ISO/IEC 7816-4 section 5.1, the four cases with short lengths).
+-- The bytes of a command (ISO/IEC 7816-4 section 5.1, the four cases with short lengths; EMV 4.3 Book 3 section
+-- 6.3.2).
 use Rattle.std.specs.Prelude.{ℕ, List, [], ◌∷◌, ◌++◌, ◌+◌, ◌*◌, ◌==◌, length, take, slice_index, Some, None, option_map, if◌then◌else◌}
 use Rattle.std.specs.declared.option.Option.{Option}
 
+-- a command: class, instruction, P1, P2, the data field, and the expected length where it has one
 pub record CommandData : Type 0 where
   pub class : ℕ
   pub ins : ℕ
@@ -24,6 +26,7 @@ expected_bytes (Some expected) = expected ∷ []
 abbrev pub tail_bytes : List ℕ → Option ℕ → List ℕ
 tail_bytes body expects = field_bytes body ++ expected_bytes expects
 
+-- the bytes of a command: its header, then the data field behind its length, then the expected length
 abbrev pub command_bytes : CommandData → List ℕ
 command_bytes c = c.class ∷ c.ins ∷ c.p1 ∷ c.p2 ∷ tail_bytes c.body c.expects
 

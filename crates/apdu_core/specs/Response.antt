@@ -1,10 +1,12 @@
--- The bytes of a response (ISO/IEC 7816-4 section 5.1): the body, then the status SW1 SW2.
+-- The bytes of a response (ISO/IEC 7816-4 section 5.1; EMV 4.3 Book 3 section 6.3.3): the body, then the status SW1
+-- SW2.
 use Rattle.std.specs.Prelude.{ℕ, List, [], ◌∷◌, ◌++◌, ◌/◌, ◌%◌, ◌*◌, ◌+◌, ◌-◌, ◌&&◌, nat_le, length, take, slice_index, Option, Some, None, if◌then◌else◌}
 
 pub record ResponseData : Type 0 where
   pub body : List ℕ
   pub status : ℕ
 
+-- the bytes of a response: the body, then the two bytes of the status
 abbrev pub response_bytes : List ℕ → ℕ → List ℕ
 response_bytes body status = body ++ status / 256 ∷ status % 256 ∷ []
 

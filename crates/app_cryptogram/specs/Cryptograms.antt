@@ -1,5 +1,5 @@
--- The cryptograms between a card and its issuer, EMV 4.3 Book 2 sections 8 and 9, under session keys of
--- sixteen bytes.
+-- The cryptograms between a card and its issuer, EMV 4.3 Book 2 sections 8 and 9, under session keys of sixteen bytes
+-- (EMV 4.3 Book 2 section 8.1).
 use Rattle.std.specs.Prelude.{ℕ, List, [], ◌∷◌, ◌++◌, take, replicate}
 use Rattle.std.specs.Int.{to_be_bytes, w16}
 use Rattle.triple_des.specs.Bits.{xor_bytes}

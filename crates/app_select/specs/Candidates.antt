@@ -11,6 +11,7 @@ pub record CandidateData : Type 0 where
   pub name : List ℕ
   pub priority : Option ℕ
 
+-- whether a candidate has this name
 abbrev pub is_candidate_named : List ℕ → CandidateData → Bool
 is_candidate_named name candidate = bytes_eq candidate.name name
 
@@ -21,6 +22,7 @@ firsts_behind earlier (candidate ∷ later) =
     if list_any (is_candidate_named candidate.name) earlier then firsts_behind (earlier ++ candidate ∷ []) later
     else candidate ∷ firsts_behind (earlier ++ candidate ∷ []) later
 
+-- the first candidate of each name, in the order found
 abbrev pub firsts : List CandidateData → List CandidateData
 firsts found = firsts_behind [] found
 
@@ -38,6 +40,7 @@ abbrev pub priority_rank : Option ℕ → ℕ
 priority_rank None = 16
 priority_rank (Some byte) = (if byte % 16 == 0 then 16 else byte % 16)
 
+-- whether a candidate stands at this place in the order of priority
 abbrev pub has_rank : ℕ → CandidateData → Bool
 has_rank rank candidate = priority_rank candidate.priority == rank
 

@@ -42,5 +42,6 @@ pub record SelectingData : Type 0 where
   pub search : SearchData
   pub candidates : List CandidateData
 
+-- what a state of selection makes of the answers to come
 abbrev pub selecting_rest : SelectingData → List (List ℕ) → Progress SelectedData
 selecting_rest state = rest_with state.search state.candidates

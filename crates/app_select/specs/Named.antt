@@ -33,6 +33,7 @@ no_row = record {
 abbrev pub named_by : List AidRow → Found → CandidateData
 named_by rows one = record { row = slice_index_or rows one.aid no_row; name = one.name; priority = one.priority }
 
+-- the names that a card gave by itself, as candidates, each with its row of the terminal
 abbrev pub all_named : List AidRow → List Found → List CandidateData
 all_named rows found = map (named_by rows) found
 

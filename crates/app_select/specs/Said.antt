@@ -1,4 +1,4 @@
--- SELECT and what its answer says (EMV 4.3 Book 1 sections 11.3 and 12.3.3).
+-- SELECT and what its answer says (EMV 4.3 Book 1 sections 11.3 and 12.3.3; Book 1 section 12.3.1).
 use Rattle.std.specs.Prelude.{⊤, ℕ, List, ◌==◌, ◌&&◌, ◌||◌, Bool, true, false, nat_lt, nat_eq, length, Option, Some, None, if◌then◌else◌}
 use Rattle.std.specs.List.{starts_with}
 use Rattle.std.specs.Str.{bytes_eq}
@@ -33,6 +33,8 @@ said_response (Some said) =
     else if said.status == file_invalidated then said_fci false (fci_of said.body)
     else Nothing
 
+-- what the answer to SELECT says: no response, a blocked card, a readable FCI of a valid or an invalidated
+-- application, or anything else
 unfoldable pub select_said : List ℕ → SaidData
 select_said answer = said_response (response_of answer)
 

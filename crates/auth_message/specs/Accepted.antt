@@ -11,6 +11,7 @@ use Rattle.auth_message.specs.Field.{are_digits}
 abbrev pub AreDigitBytes : List ℕ → Type 0
 AreDigitBytes value = IsTrue (are_digits value)
 
+-- the fields of a request that reading accepts: digits where they have to be, and an account number of this profile
 pub record IsRequest (f : RequestData) : Type 0 where
   pub account_number : HasPanLength f.named.pan
   pub sequence_number : IfSome f.named.t5f34 AreDigitBytes
@@ -21,6 +22,8 @@ pub record IsRequest (f : RequestData) : Type 0 where
   pub date : AreDigitBytes f.paid.t9a
   pub issuer_data : length f.t9f10 ≤ 32
 
+-- the fields of a presentment that reading accepts: digits where they have to be, and an account number of this
+-- profile
 pub record IsPresent (f : PresentData) : Type 0 where
   pub account_number : HasPanLength f.named.pan
   pub sequence_number : IfSome f.named.t5f34 AreDigitBytes
@@ -30,6 +33,7 @@ pub record IsPresent (f : PresentData) : Type 0 where
   pub date : AreDigitBytes f.paid.t9a
   pub issuer_data : length f.t9f10 ≤ 32
 
+-- the fields of a reversal that reading accepts: digits where they have to be, and an account number of this profile
 pub record IsReversal (f : ReversalFields) : Type 0 where
   pub account_number : HasPanLength f.pan
   pub sequence_number : IfSome f.t5f34 AreDigitBytes

@@ -15,5 +15,6 @@ message_in outer =
     else if outer.0 == 0xE3 then (present_at outer.1 >>= λ fields. Ok (Present fields))
     else (reversal_at outer.1 >>= λ fields. Ok (Reverse fields))
 
+-- the message that bytes are, by its tag E1, E3 or E4, or its first fault
 abbrev pub message_of : List ℕ → Result Incoming MessageFault
 message_of bytes = outer_of (0xE1 ∷ 0xE3 ∷ 0xE4 ∷ []) bytes >>= message_in

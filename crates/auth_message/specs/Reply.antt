@@ -59,6 +59,8 @@ bytes_of_items bytes (first ∷ others) = slice_range bytes first.start (end_beh
 abbrev pub are_few_templates : List ItemData → List ℕ → Bool
 are_few_templates items bytes = nat_le (length items) 8 && nat_le (length bytes) 1024
 
+-- the scripts among a reply's items, with what stands behind them: at most 8 of at most 1,024 bytes together, else a
+-- fault
 unfoldable pub scripts_in_items : List ℕ → List ItemData → Result (List ℕ × List ItemData) MessageFault
 scripts_in_items bytes items =
     if are_few_templates (leading_templates items) (bytes_of_items bytes (leading_templates items))
@@ -74,6 +76,7 @@ reply_at bytes items = do
   end ← no_item_left scripts.1
   Ok (record { code = code.0; auth = auth.0; scripts = scripts.0 })
 
+-- the reply that bytes are, or its first fault
 abbrev pub reply_of : List ℕ → Result ReplyData MessageFault
 reply_of bytes = outer_of (0xE2 ∷ []) bytes >>= λ outer. reply_at bytes outer.1
 

@@ -14,6 +14,7 @@ message_bytes (Request f) = request_bytes f
 message_bytes (Present f) = present_bytes f
 message_bytes (Reverse f) = reversal_bytes f
 
+-- a message whose fields reading accepts
 abbrev pub IsAccepted : Incoming → Type 0
 IsAccepted (Request f) = IsRequest f
 IsAccepted (Present f) = IsPresent f
@@ -24,6 +25,7 @@ pub record IsCoded (t5f2a t9c : List ℕ) : Type 0 where
   pub currency : IsTrue (is_code t5f2a)
   pub transaction_type : AreDigitBytes t9c
 
+-- a message's currency, and its transaction type where it has one, are written as codes
 abbrev pub HasCodes : Incoming → Type 0
 HasCodes (Request f) = IsCoded f.paid.t5f2a f.paid.t9c
 HasCodes (Present f) = IsCoded f.paid.t5f2a f.paid.t9c

@@ -1,4 +1,4 @@
--- Where a fault of the coding is.
+-- Where a fault of the coding is (EMV 4.3 Book 3 Annex B).
 use Rattle.std.specs.Prelude.{ℕ, ◌+◌, ◌<◌, ◌≤◌, List, length, Option, Some, None}
 use Rattle.ber_tlv.specs.declared.item.TlvFault.{TlvFault}
 use Rattle.ber_tlv.specs.declared.item.TlvFault.TheVariants.{Truncated, BadLength, LongTag}

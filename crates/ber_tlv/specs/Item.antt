@@ -40,6 +40,7 @@ second_tag_byte bytes start first = do
   second ← byte_at bytes start (start + 1)
   if nat_lt second 128 then Ok (first * 256 + second, start + 2) else third_tag_byte bytes start (first * 256 + second)
 
+-- the tag that begins at a place, with the place behind it, or its fault
 unfoldable pub tag_at : List ℕ → ℕ → Result (ℕ × ℕ) TlvFault
 tag_at bytes start = do
   first ← byte_at bytes start start

@@ -1,4 +1,4 @@
--- The objects of a byte string as one value, which `Items` and `FaultBehind` determine.
+-- The objects of a byte string as one value, which `Items` and `FaultBehind` determine (EMV 4.3 Book 3 Annex B).
 use Rattle.std.specs.Prelude.{ℕ, zero, suc, ◌+◌, ◌==◌, if◌then◌else◌, List, [], ◌∷◌, length, Option, Some, None, Result, Ok, Err, slice_get}
 use Rattle.ber_tlv.specs.Item.{ItemData, item_at, ◌>>=◌}
 use Rattle.ber_tlv.specs.declared.item.TlvFault.{TlvFault}

@@ -6,6 +6,7 @@ use Rattle.ber_tlv.specs.Walked.{Walked, Done, Broken, Met, then_walked, walk_in
 use Rattle.ber_tlv.specs.declared.item.Item.{Item}
 use Rattle.ber_tlv.specs.declared.item.TlvFault.{TlvFault}
 
+-- what a contract sees of an item
 abbrev pub seen : Item → ItemData
 seen item = record { tag = item.tag.0; value = item.value.now; start = item.start }
 

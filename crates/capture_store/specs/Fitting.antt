@@ -10,6 +10,8 @@ use Rattle.capture_store.specs.StoreRow.{StoreRow, new_store, is_next_cut, store
 abbrev pub RowFits : StoreRow → Type 0
 RowFits row = (found : Bool) → IsList (list_found row.list row.lost found)
 
+-- each step of a store keeps that what the next opening would find fits, and that there is room behind the opening
+-- for a purchase and its delivery
 pub record StoreFits : Type 0 where
   pub begins : RowFits new_store
   pub opens : (row : StoreRow) (found : Bool) → RowFits row → RowFits (store_opened row found)

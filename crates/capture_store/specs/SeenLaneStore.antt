@@ -25,10 +25,12 @@ pub record CaptureListOff (seen : CaptureListSeen) (list : List (List ℕ)) (los
   pub may : MayStandForList seen.memory.cells list lost
   pub none : commits ≡ None
 
+-- the place of a store stands for this row, on under this plan; a place without a store stands for none
 abbrev pub LaneStoreOn : LaneStoreSeen → StoreRow → Option Tear → Type 0
 LaneStoreOn None row plan = ⊥
 LaneStoreOn (Some seen) row plan = CaptureListOn seen row.list row.lost row.commits plan
 
+-- the place of a store stands for this row, off; a place without a store stands for none
 abbrev pub LaneStoreOff : LaneStoreSeen → StoreRow → Type 0
 LaneStoreOff None row = ⊥
 LaneStoreOff (Some seen) row = CaptureListOff seen row.list row.lost row.commits

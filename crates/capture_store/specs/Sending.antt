@@ -29,6 +29,8 @@ RowKeeps caught sent row = KeepsSending caught sent row.list row.lost
 abbrev pub caught_by : Option Tear → StoreRow → List ℕ → Caught
 caught_by plan row message = record { message = message; lost = is_next_cut plan row }
 
+-- each step of a store keeps that what was sent and what is left is sent of what was caught, whatever the next
+-- opening would find
 pub record StoreKeeps : Type 0 where
   pub begins : RowKeeps [] [] new_store
   pub opens : (caught : List Caught) (sent : List (List ℕ)) (row : StoreRow) (found : Bool) → RowKeeps caught sent row → RowKeeps caught sent (store_opened row found)

@@ -5,6 +5,8 @@ use Rattle.emv_ports.specs.Cut.{names_commit}
 use Rattle.emv_ports.specs.declared.tear.Tear.{Tear}
 use Rattle.capture_store.specs.Calls.{Call, Adds, Drops, called, list_found, call_left_by}
 
+-- the store of a lane: its list, a lost call, the commits since its opening, whether its delivery is still to come,
+-- and what the settlement found
 pub record StoreRow : Type 0 where
   -- the messages that are kept, oldest first, and a lost call that the next opening finds or doesn't
   pub list : List (List ℕ)
@@ -16,6 +18,7 @@ pub record StoreRow : Type 0 where
   -- the list that the opening for settlement found
   pub found : Option (List (List ℕ))
 
+-- the row of a store that nothing has used
 abbrev pub new_store : StoreRow
 new_store = record { list = []; lost = None; commits = None; due = false; found = None }
 

@@ -16,6 +16,7 @@ use Rattle.card_app.specs.Session.{Exchange}
 abbrev pub IccSeen : Type 0
 IccSeen = CardSeen
 
+-- whether a card in its place has power
 abbrev pub icc_is_powered : IccSeen → Bool
 icc_is_powered seen = seen.kept.memory.on
 

@@ -1,4 +1,4 @@
--- A card in a reader: what it answers to each line.
+-- A card in a reader: what it answers to each line (ISO/IEC 7816-4; EMV 4.3 Book 3 section 6.5).
 use Rattle.std.specs.Prelude.{◌≡◌, ℕ, ◌+◌, Bool, if◌then◌else◌, List, [], ◌∷◌, ◌++◌, length, codes, Option, Some, None, IsTrue}
 use Rattle.card_app.specs.Answering.{card_answer}
 use Rattle.card_app.specs.SeenCard.{CardSeen}

@@ -1,4 +1,5 @@
--- What a command asks for by P1 and P2, and what stands behind the answer to GENERATE AC (EMV 4.3 Book 1 section 11.3, Book 3 section 6.5).
+-- What a command asks for by P1 and P2, and what stands behind the answer to GENERATE AC (EMV 4.3 Book 1 section
+-- 11.3, Book 3 section 6.5; sections 6.3.2, 6.5.4, 6.5.5.2, 6.5.11, Annex C1).
 use Rattle.std.specs.Prelude.{ℕ, ◌/◌, ◌%◌, ◌==◌, ◌&&◌, ◌||◌, not, nat_le, Bool, true, false, if◌then◌else◌, List, slice_index, Option, Some, None}
 use Rattle.emv_dict.specs.Kinds.{kind_of}
 use Rattle.emv_dict.specs.declared.ending.Kind.{Kind}
@@ -12,6 +13,7 @@ is_class class = class == 0x00 || (class == 0x04 || (class == 0x80 || class == 0
 abbrev pub is_by_name : ℕ → ℕ → Bool
 is_by_name p1 p2 = (p1 == 4) && ((p2 == 0) || (p2 == 2))
 
+-- as many bytes as SELECT takes for a name: 1 to 16
 abbrev pub is_name_size : ℕ → Bool
 is_name_size size = nat_le 1 size && nat_le size 16
 

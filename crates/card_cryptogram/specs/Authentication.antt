@@ -1,4 +1,4 @@
--- How EXTERNAL AUTHENTICATE authenticates the issuer (EMV 4.3 Book 2 section 8.2).
+-- How EXTERNAL AUTHENTICATE authenticates the issuer (EMV 4.3 Book 2 section 8.2; sections 8.2.1, 8.2.2).
 use Rattle.std.specs.Prelude.{ℕ, List, ◌==◌, ◌&&◌, Bool, true, false, if◌then◌else◌, nat_le, length, take, drop, Option, Some, None}
 use Rattle.std.specs.Str.{bytes_eq}
 use Rattle.app_cryptogram.specs.Cryptograms.{arpc_of, arpc_two_of}
@@ -43,6 +43,7 @@ abbrev pub auth_of : Option Auth → Auth
 auth_of None = Absent
 auth_of (Some auth) = auth
 
+-- whether the issuer is authenticated, by either method
 abbrev pub is_authenticated : Auth → Bool
 is_authenticated Absent = false
 is_authenticated One = true

@@ -1,4 +1,4 @@
--- The sale that a cryptogram is for, as the card keeps it.
+-- The sale that a cryptogram is for, as the card keeps it (EMV 4.3 Book 3 Annex D4).
 use Rattle.std.specs.Prelude.{ℕ, List, if◌then◌else◌, Option, Some, None}
 use Rattle.std.specs.Str.{bytes_eq}
 use Rattle.card_state.specs.declared.decision.Sale.{Sale}

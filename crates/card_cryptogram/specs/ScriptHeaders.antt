@@ -12,10 +12,12 @@ use Rattle.card_cryptogram.specs.declared.orders.ScriptCommand.TheVariants.{Bloc
 abbrev pub plain_order : ScriptCommand → ℕ → ℕ → Option ScriptCommand
 plain_order order p1 p2 = if (p1 == 0) && (p2 == 0) then Some order else None
 
+-- what PIN CHANGE/UNBLOCK orders by P1 P2: the tries at their limit, or a new PIN
 abbrev pub pin_order : ℕ → ℕ → Option ScriptCommand
 pin_order p1 p2 =
     if (p1 == 0) && (p2 == 0) then Some UnblockPin else if (p1 == 0) && (p2 == 2) then Some ChangePin else None
 
+-- what PUT DATA orders by P1 P2: the limit of the number of offline approvals, or of their sum
 abbrev pub limit_order : ℕ → ℕ → Option ScriptCommand
 limit_order p1 p2 =
     if (p1 == 0xDF) && (p2 == 1) then Some LimitCount else if (p1 == 0xDF) && (p2 == 2) then Some LimitSum else None

@@ -1,5 +1,5 @@
 -- What an issuer's script commands hold under session keys: a code, and a PIN that is enciphered (EMV 4.3 Book 2
--- section 9).
+-- section 9; EMV 4.3 Book 2 sections 9.2, 9.3).
 use Rattle.std.specs.Prelude.{ℕ, List, ◌-◌, Bool, length, take, drop}
 use Rattle.std.specs.Str.{bytes_eq}
 use Rattle.app_cryptogram.specs.Cryptograms.{script_mac_of}

@@ -1,4 +1,4 @@
--- The rules of an application's other keys.
+-- The rules of an application's other keys (EMV 4.3 Book 1 section 12.2.1, Book 3 section 5.3; ISO 9564-1).
 use Rattle.std.specs.Prelude.{ℕ, Bool, true, false, not, nat_le, ◌==◌, ◌&&◌, ◌||◌, List, [], ◌∷◌, length, take, drop, replicate, slice_index, Option, Some, None}
 use Rattle.std.specs.List.{list_all, list_any}
 use Rattle.std.specs.Str.{bytes_eq}
@@ -25,6 +25,7 @@ is_name bytes = has_size 5 16 bytes
 abbrev pub is_printable : ℕ → Bool
 is_printable c = is_within 32 126 c
 
+-- a label of 1 to 16 printable characters
 abbrev pub is_label : List ℕ → Bool
 is_label text = has_size 1 16 text && list_all is_printable text
 
@@ -32,9 +33,11 @@ is_label text = has_size 1 16 text && list_all is_printable text
 abbrev pub most_afl : ℕ
 most_afl = 248
 
+-- a locator of at most 248 bytes
 abbrev pub is_afl : List ℕ → Bool
 is_afl bytes = nat_le (length bytes) most_afl
 
+-- the format of an answer is 1 or 2
 abbrev pub is_format : ℕ → Bool
 is_format n = n == 1 || n == 2
 
@@ -46,6 +49,7 @@ is_record r = is_within 1 30 r.sfi && (is_within 1 255 r.number && has_size 1 25
 abbrev pub is_pair : RecordData → RecordData → Bool
 is_pair r s = r.sfi == s.sfi && r.number == s.number
 
+-- whether two records have one number in one file
 abbrev pub has_twins : List RecordData → Bool
 has_twins [] = false
 has_twins (r ∷ rs) = list_any (is_pair r) rs || has_twins rs
@@ -91,6 +95,7 @@ is_tries n = nat_le n 15
 abbrev pub most_rows : ℕ
 most_rows = 10
 
+-- no more rows than a transaction log has at most
 abbrev pub is_log_size : ℕ → Bool
 is_log_size n = nat_le n most_rows
 

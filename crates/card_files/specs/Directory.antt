@@ -38,6 +38,8 @@ pub record IsDirectoryFci (sfi : ℕ) (bytes : List ℕ) : Type 0 where
   pub parts : AreObjects template ((0x84, directory_name) ∷ (0xA5, own) ∷ [])
   pub objects : AreObjects own ((0x88, sfi ∷ []) ∷ [])
 
+-- what a reader of data objects finds in a record of the directory: one template 70, in it one 61, in it name, label
+-- and priority
 pub record IsDirectoryRecord (app : AppData) (bytes : List ℕ) : Type 0 where
   pub template : List ℕ
   pub entry : List ℕ

@@ -1,4 +1,4 @@
--- The files of a card's applications and their opening states.
+-- The files of a card's applications and their opening states (EMV 4.3 Book 3 section 5.3).
 use Rattle.std.specs.Prelude.{ℕ, Bool, false, ◌==◌, ◌&&◌, if◌then◌else◌, List, [], ◌∷◌, map, slice_get, Option, Some, None, option_and_then, Contains, IsSomeAnd}
 use Rattle.std.specs.List.{list_any}
 use Rattle.card_state.specs.declared.state.CardState.{CardState}

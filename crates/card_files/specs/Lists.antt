@@ -1,4 +1,5 @@
--- The object lists of an application: how long they are, and which entries they hold.
+-- The object lists of an application: how long they are, and which entries they hold (EMV 4.3 Book 3 section 5.4,
+-- Book 2 section 8.1.1).
 use Rattle.std.specs.Prelude.{ℕ, Bool, true, false, ◌==◌, ◌||◌, nat_le, nat_lt, is_some, if◌then◌else◌, List, [], ◌∷◌, length, Option, Some, None, Result, Ok, Err}
 use Rattle.std.specs.List.{list_all}
 use Rattle.object_lists.specs.DolEntries.{DolEntry, dol_of, total_of, data_place}
@@ -28,6 +29,7 @@ entries_within most bytes = (if nat_le (length bytes) most then fitting (dol_of 
 abbrev pub has_entry : List DolEntry → DolEntry → Bool
 has_entry entries wanted = is_some (data_place wanted.tag wanted.count entries)
 
+-- whether all entries that are wanted are among these
 abbrev pub has_all : List DolEntry → List DolEntry → Bool
 has_all wanted entries = list_all (has_entry entries) wanted
 
@@ -49,12 +51,15 @@ abbrev pub holds_all : List DolEntry → Option (List DolEntry) → Bool
 holds_all wanted (Some entries) = has_all wanted entries
 holds_all wanted None = false
 
+-- a list of processing options that can be read and is no longer than allowed
 abbrev pub is_pdol : List ℕ → Bool
 is_pdol bytes = is_some (entries_within most_pdol bytes)
 
+-- a list for the first GENERATE AC that can be read, is no longer than allowed and has the entries that it must have
 abbrev pub is_cdol1 : List ℕ → Bool
 is_cdol1 bytes = holds_all cdol1_entries (entries_within most_cdol bytes)
 
+-- the same of the list for the second one
 abbrev pub is_cdol2 : List ℕ → Bool
 is_cdol2 bytes = holds_all cdol2_entries (entries_within most_cdol bytes)
 

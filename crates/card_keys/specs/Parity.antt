@@ -1,4 +1,4 @@
--- Odd parity: the lowest bit of a key's byte makes the number of its ones odd.
+-- Odd parity: the lowest bit of a key's byte makes the number of its ones odd (EMV 4.3 Book 2 Annex A1.4.1, step 3).
 use Rattle.std.specs.Prelude.{ℕ, ◌≡◌, ◌+◌, ◌*◌, ◌/◌, ◌%◌, ◌==◌, if◌then◌else◌, count_ones}
 
 -- the byte has an odd number of ones

@@ -24,6 +24,7 @@ has_pin s = not (bytes_eq s.pin (replicate 8 0))
 abbrev pub is_equal : Comparison → Bool
 is_equal k = bytes_eq k.block k.pin
 
+-- what a card decides and answers to a PIN block to compare
 abbrev pub comparison_reply : Comparison → CardReplyData
 comparison_reply k = compared k.app k.limit k.tries (is_equal k)
 

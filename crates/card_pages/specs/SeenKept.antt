@@ -35,6 +35,8 @@ pub record Took (next : KeptState) (opening : CardState) (ds new : List Decided)
   pub spared : cut_of plan made new ≡ None
   pub kept : KeptOn next opening (ds ++ new) plan (made + length new)
 
+-- new decisions are all taken, whatever the pages stood for: the plan cuts none of them, and the pages stand for the
+-- longer list
 abbrev pub Takes : KeptState → KeptState → List Decided → Type 0
 Takes old next new =
     (opening : CardState) (ds : List Decided) (plan : Option Tear) (made : ℕ) → KeptOn old opening ds plan made → Took next opening ds new plan made

@@ -1,5 +1,5 @@
--- What a card answers to GENERATE AC (this project's own policy; EMV 4.3 Book 3 section 10.8 leaves
--- card risk management to the issuer).
+-- What a card answers to GENERATE AC (this project's own policy; EMV 4.3 Book 3 section 10.8 leaves card risk
+-- management to the issuer) (EMV 4.3 Book 2 section 8.2).
 use Rattle.std.specs.Prelude.{◌≡◌, ℕ, ◌+◌, ◌≤◌, ◌/◌, ◌==◌, List, [], ◌∷◌, Bool, true, false, not, ◌&&◌, ◌||◌, nat_le, nat_lt, slice_index, if◌then◌else◌}
 use Rattle.std.specs.Str.{bytes_eq}
 use Rattle.emv_dict.specs.declared.ending.Kind.{Kind}

@@ -1,4 +1,4 @@
--- The decision that a PIN was right, among those that a command adds.
+-- The decision that a PIN was right, among those that a command adds (EMV 4.3 Book 3 section 6.5.12).
 use Rattle.std.specs.Prelude.{◌≡◌, ℕ, List, [], ◌∷◌, Contains}
 use Rattle.card_files.specs.Views.{ImageData}
 use Rattle.card_state.specs.Decisions.{Decided}

@@ -1,4 +1,5 @@
--- What each decision of a card counts as, and what it gives.
+-- What each decision of a card counts as, and what it gives (EMV 4.3 Book 3 sections 6.5, 10 and Annex D4, Book 2
+-- section 8.2.2).
 use Rattle.std.specs.Prelude.{ℕ, ◌+◌, ◌/◌, ◌%◌, ◌==◌, Bool, true, false, not, if◌then◌else◌, List, [], ◌∷◌, slice_index, Option, Some, None, is_some}
 use Rattle.std.specs.List.{cons_option}
 use Rattle.emv_dict.specs.Kinds.{kind_byte}
@@ -201,6 +202,7 @@ is_card_block (PinChange pin limit) = false
 is_card_block (Count limit) = false
 is_card_block (Sum limit) = false
 
+-- whether a decision blocks the card
 abbrev pub blocks_card : Decision → Bool
 blocks_card Started = false
 blocks_card PinTry = false

@@ -30,6 +30,7 @@ abbrev pub FitsSteered : Option Steered → Type 0
 FitsSteered None = ⊤
 FitsSteered (Some s) = s.limit < 2 ^ 8
 
+-- what a decision gives fits the fields of the state that it sets
 abbrev pub FitsFields : Decision → Type 0
 FitsFields Started = ⊤
 FitsFields PinTry = ⊤

@@ -1,4 +1,4 @@
--- What holds of every list of rules.
+-- What holds of every list of rules (EMV 4.3 Book 3 section 10.5).
 use Rattle.std.specs.Prelude.{◌≡◌, ℕ, ◌==◌, false, IsTrue, List, ◌++◌, bit_and, slice_index, Option, Some}
 use Rattle.object_lists.specs.CardRead.{ReadCard}
 use Rattle.cvm_list.specs.Cvm.{course, deciding, verified_by_rules}

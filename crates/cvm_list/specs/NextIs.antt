@@ -6,6 +6,7 @@ use Rattle.cvm_list.specs.declared.verifying.VerifyNext.TheVariants as next
 use Rattle.emv_dict.specs.Progress.{Progress, Leads, Stopped, Done}
 use Rattle.emv_dict.specs.declared.verified.Verified.{Verified}
 
+-- the whole goes on as what comes next in cardholder verification does
 abbrev pub VerifyNextLeads : (List (List ℕ) → Progress Verified) → List (List ℕ) → VerifyNext → Type 0
 VerifyNextLeads whole answers (next.Ask verifying) = Leads whole answers (verifying_rest verifying)
 VerifyNextLeads whole answers (next.Done verified) = Leads whole answers (λ later. Done verified later)

@@ -22,5 +22,6 @@ FindsVerificationBits (Wants command) = ⊤
 FindsVerificationBits (Stopped cause) = ⊤
 FindsVerificationBits (Done verified rest) = AreVerificationBits verified.tvr.0
 
+-- whatever the card answers, cardholder verification finds no bit but its own
 abbrev pub VerificationBitsAreOwn : Type 0
 VerificationBitsAreOwn = (card : ReadCard) (settings : SettingsData) (purchase : PurchaseData) (answers : List (List ℕ)) → FindsVerificationBits (cvm card settings purchase answers)

@@ -1,4 +1,5 @@
--- The rules of a cardholder verification method list, object 8E (EMV 4.3 Book 3 Annex C3 and section 10.5).
+-- The rules of a cardholder verification method list, object 8E (EMV 4.3 Book 3 Annex C3 and section 10.5; Book 4
+-- Annex A2).
 use Rattle.std.specs.Prelude.{ℕ, ◌*◌, ◌/◌, ◌%◌, ◌==◌, ◌^◌, Bool, true, false, not, ◌&&◌, ◌||◌, nat_lt, nat_le, if◌then◌else◌, List, [], ◌∷◌, bit_and, drop, filter, slice_index, Option, Some, None}
 use Rattle.std.specs.Str.{bytes_eq}
 use Rattle.std.specs.Int.{from_be_bytes, w32}

@@ -1,4 +1,5 @@
--- What comes of one rule of a cardholder verification method list (EMV 4.3 Book 3 sections 10.5.1 to 10.5.4).
+-- What comes of one rule of a cardholder verification method list (EMV 4.3 Book 3 sections 10.5.1 to 10.5.4; section
+-- 6.5.12).
 use Rattle.std.specs.Prelude.{ℕ, ◌==◌, Bool, true, false, not, ◌||◌, if◌then◌else◌, List, [], ◌∷◌, Option, Some, None}
 use Rattle.emv_dict.specs.Flags.{tvr_bit}
 use Rattle.emv_dict.specs.declared.ending.Cause.{Cause}

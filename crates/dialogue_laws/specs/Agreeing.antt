@@ -1,5 +1,5 @@
 -- The payment system directory of a card and the terminal's list find the same applications (EMV 4.3 Book 1 sections
--- 12.3.2 and 12.3.3).
+-- 12.3.2 and 12.3.3; section 12.4).
 use Rattle.std.specs.Prelude.{◌≡◌, ◌≢◌, ℕ, false, Bool, List}
 use Rattle.std.specs.List.{All, AllPairs, Contains, list_any}
 use Rattle.std.specs.Option.{IsSome}

@@ -15,6 +15,8 @@ use Rattle.kernel.specs.Dialogue.{dialogue}
 use Rattle.kernel.specs.Reply.{Reply, Over}
 use Rattle.terminal_state.specs.Terminal.{Outset}
 
+-- whatever a terminal is told by a well-formed card that stays in it, and by a host or by none, where its dialogue is
+-- over the purchase is approved or declined
 abbrev pub PurchasesAreDecided : Type 0
 PurchasesAreDecided =
     (image : ImageData) (outset : Outset) (found : List Decided) (now : Now) (replies : List Reply) (ending : Ending)

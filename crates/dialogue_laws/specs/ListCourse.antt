@@ -1,4 +1,4 @@
--- The candidates of the list of AIDs as a step over the card's answers (EMV 4.3 Book 1 section 12.3.3).
+-- The candidates of the list of AIDs as a step over the card's answers (EMV 4.3 Book 1 section 12.3.3; section 12.4).
 use Rattle.std.specs.Prelude.{◌≡◌, ℕ, List, Bool}
 use Rattle.app_select.specs.Candidates.{CandidateData, candidates}
 use Rattle.app_select.specs.Listed.{listed, first_fault, candidates_in}

@@ -1,5 +1,5 @@
--- The dialogue's definitions are total, so they have an answer also in cases that no dialogue comes to. What no dialogue
--- comes to, in other words.
+-- The dialogue's definitions are total, so they have an answer also in cases that no dialogue comes to. What no
+-- dialogue comes to, in other words (EMV 4.3 Book 3 section 5.4).
 use Rattle.std.specs.Prelude.{◌≡◌, ⊤, ℕ, ◌<◌, true, false, List, [], ◌∷◌, ◌++◌, length, is_some, Some, Ok}
 use Rattle.std.specs.List.{AllByRecursion}
 use Rattle.emv_dict.specs.Progress.{Wants, Done}
@@ -40,6 +40,7 @@ CanStand (HasRunBefore result) = 0 < length result
 CanStand (HasSecond ac) = asks_online ac.kind ≡ false
 CanStand (HasRunBehind result) = 0 < length result
 
+-- no dialogue comes to the cases that its definitions answer only because they are total
 pub record ShadowsDoNotCome : Type 0 where
   -- each finished step leaves what it can
   pub steps : (outset : Outset) (replies : List Reply) → IsPurchase outset.purchase → AllByRecursion CanStand (dialogue outset replies).steps_done

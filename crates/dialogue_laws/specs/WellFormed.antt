@@ -1,4 +1,4 @@
--- A card with which a purchase comes to a decision.
+-- A card with which a purchase comes to a decision (EMV 4.3 Book 3 sections 10.1, 10.2).
 use Rattle.std.specs.Prelude.{◌≡◌, ◌≢◌, ℕ, ◌<◌, ◌≤◌, false, nat_eq, IsTrue, List, length, map, slice_get, Option, Some, None, Contains, Result, Ok, Err}
 use Rattle.std.specs.List.{All, starts_with}
 use Rattle.app_select.specs.Candidates.{CandidateData, is_allowed}

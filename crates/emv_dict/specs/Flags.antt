@@ -1,5 +1,5 @@
--- The bits of the terminal verification results (EMV 4.3 Book 3 Annex C5) and of the transaction status
--- information (Annex C6). Bytes are counted from 1 at the left, and the bits of a byte from 8 at the left to 1.
+-- The bits of the terminal verification results (EMV 4.3 Book 3 Annex C5) and of the transaction status information
+-- (Annex C6; section 10.7). Bytes are counted from 1 at the left, and the bits of a byte from 8 at the left to 1.
 use Rattle.std.specs.Prelude.{ℕ, ◌+◌, ◌-◌, ◌*◌, ◌^◌, ◌==◌, ◌≤◌, Bool, false, not, ◌||◌, ◌&&◌, if◌then◌else◌, List, [], ◌∷◌, codes, drop, bit_and, bit_or, slice_index, IsBitSet}
 use Rattle.std.specs.Int.{to_be_bytes, w64, bit_at}
 use Rattle.std.specs.List.{list_any}

@@ -34,9 +34,11 @@ least_pan = 13
 abbrev pub most_pan : ℕ
 most_pan = 19
 
+-- whether an account number of this profile has so many digits: 13 to 19
 abbrev pub is_pan_length : ℕ → Bool
 is_pan_length count = nat_le least_pan count && nat_le count most_pan
 
+-- as many digits as an account number of this profile has: 13 to 19
 abbrev pub HasPanLength : List ℕ → Type 0
 HasPanLength digits = IsTrue (is_pan_length (length digits))
 

@@ -24,6 +24,7 @@ pub record SinkState : Type 0 where
 abbrev pub new_source : List ℕ → List ℕ → ℕ → SourceState
 new_source bytes fails most = record { left = bytes; most = most; fails = fails; calls = 0; faults = 0 }
 
+-- an empty sink before its first call
 abbrev pub new_sink : ℕ → List ℕ → ℕ → SinkState
 new_sink room fails most = record { held = []; room = room; most = most; fails = fails; calls = 0; faults = 0 }
 

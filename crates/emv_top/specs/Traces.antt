@@ -21,6 +21,8 @@ behind_lane lane text = codes "L" ++ decimal lane ++ codes " " ++ text ++ newlin
 abbrev pub ended_in_lane : ℕ → ℕ → List ℕ → List ℕ
 ended_in_lane lane number text = codes "L" ++ decimal lane ++ codes " end " ++ decimal number ++ codes " " ++ text ++ newline
 
+-- a report's lines of a purchase are the entries of its trace behind their lane, and its end line has the text that a
+-- verdict compares
 pub record LinesAreEntries : Type 0 where
   pub commands : (lane : ℕ) (bytes : List ℕ) → line_text (ToCard lane (record { items = bytes })) ≡ behind_lane lane (entry_text (entries.ToCard bytes))
   pub answers : (lane : ℕ) (bytes : List ℕ) → line_text (FromCard lane (record { items = bytes })) ≡ behind_lane lane (entry_text (entries.CardSaid bytes))

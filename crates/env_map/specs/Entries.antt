@@ -3,6 +3,7 @@ use Rattle.std.specs.Prelude.{ℕ, Bool, true, ◌<◌, ◌==◌, ⊤, nat_lt, i
 use Rattle.std.specs.List.{AllByRecursion}
 use Rattle.ber_tlv.specs.declared.tag.Tag.{Tag}
 
+-- the entries of a map: tags with their values
 abbrev pub Entries : Type 0
 Entries = List (ℕ × List ℕ)
 
@@ -35,5 +36,6 @@ abbrev pub is_tag_above : Option Tag → ℕ → Bool
 is_tag_above None tag = true
 is_tag_above (Some given) tag = nat_lt given.0 tag
 
+-- the entries whose tag is above a given one, all where none is given
 abbrev pub entries_after : Option Tag → Entries → Entries
 entries_after given entries = filter (λ entry. is_tag_above given entry.0) entries

@@ -177,5 +177,6 @@ left_with_response lane command answer (Some response) = left_by_response lane c
 unfoldable pub words_of_answer : LaneState → List ℕ → List ℕ → Bool → List Piece
 words_of_answer lane command answer brief = words_by_response lane command answer (response_of answer) brief
 
+-- what an answer leaves for the lines behind it
 unfoldable pub left_by_answer : LaneState → List ℕ → List ℕ → LaneState
 left_by_answer lane command answer = left_with_response lane command answer (response_of answer)

@@ -185,6 +185,7 @@ words_of lane bytes (Some command) row brief =
     else if command.class == 0x80 then own_words lane command row brief
     else other_command_words bytes
 
+-- a command in words, by its class and instruction, or as one of a script
 unfoldable pub words_of_command : LaneState → List ℕ → Option Row → Bool → List Piece
 words_of_command lane bytes row brief = words_of lane bytes (command_of bytes) row brief
 
@@ -203,5 +204,6 @@ lane_behind_command lane (Some command) row =
     else if command.class == 0x80 then left_own lane command row
     else lane
 
+-- what a command leaves for the lines behind it
 unfoldable pub left_by_command : LaneState → List ℕ → Option Row → LaneState
 left_by_command lane bytes row = lane_behind_command (record lane { command = record { items = kept_if_short 261 bytes } }) (command_of bytes) row

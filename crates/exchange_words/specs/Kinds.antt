@@ -84,9 +84,11 @@ abbrev pub kind_with : Option (ℕ × List ℕ) → Option (Kind × List ℕ)
 kind_with None = None
 kind_with (Some parts) = option_map (λ kind. (kind, parts.1)) (kind_of parts.0)
 
+-- the kind of cryptogram that an answer gives, and the issuer application data
 abbrev pub kind_answered : List ℕ → Option (Kind × List ℕ)
 kind_answered body = kind_with (cryptogram_parts body)
 
+-- the kind that is answered, in words, where it isn't the one that was asked for
 abbrev pub answered_kind_words : LaneState → Option (Kind × List ℕ) → List Piece
 answered_kind_words lane None = []
 answered_kind_words lane (Some found) = if_other lane lane.asked found.0 found.1
@@ -95,6 +97,7 @@ answered_kind_words lane (Some found) = if_other lane lane.asked found.0 found.1
 abbrev pub one_answer_more : ℕ → ℕ
 one_answer_more count = min (count + 1) 255
 
+-- what an answer with a cryptogram leaves: one more, and its kind where it could be read
 abbrev pub with_kind : LaneState → Option (Kind × List ℕ) → LaneState
 with_kind lane None = record lane { cryptograms = one_answer_more lane.cryptograms }
 with_kind lane (Some found) = record lane { cryptograms = one_answer_more lane.cryptograms; answered = Some found.0 }

@@ -1,4 +1,4 @@
--- What an answer leaves for the lines behind it.
+-- What an answer leaves for the lines behind it (Book 3 section 10.2).
 use Rattle.std.specs.Prelude.{ℕ, zero, suc, ◌==◌, if◌then◌else◌, List, [], ◌∷◌, length, Option, Some, None}
 use Rattle.std.specs.Option.{option_or}
 use Rattle.ber_tlv.specs.Direct.{sole_value}

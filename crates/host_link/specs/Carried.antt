@@ -14,6 +14,7 @@ pub record IsCallOf (bytes message : List ℕ) : Type 0 where
   pub read : call_of bytes ≡ Ok call
   pub same : message ≡ message_bytes call
 
+-- what stands on a wire is read as this message, in the dialect or as it is
 abbrev pub CarriesCall : Bool → List ℕ → List ℕ → Type 0
 CarriesCall false bytes message = bytes ≡ message
 CarriesCall true bytes message = IsCallOf bytes message
@@ -25,6 +26,7 @@ pub record IsReplyOf (bytes reply : List ℕ) : Type 0 where
   pub read : iso_reply_of bytes ≡ Ok (kind, found)
   pub same : reply ≡ reply_bytes found.code found.auth found.scripts
 
+-- what stands on a wire is read as this reply, in the dialect or as it is
 abbrev pub CarriesReply : Bool → List ℕ → List ℕ → Type 0
 CarriesReply false bytes reply = bytes ≡ reply
 CarriesReply true bytes reply = IsReplyOf bytes reply

@@ -1,4 +1,4 @@
--- The Authorisation Response Code (8A) of a decision (own).
+-- The Authorisation Response Code (8A) of a decision (own) (ISO 8583).
 use Rattle.std.specs.Prelude.{ℕ, Bool, true, false, List, codes}
 use Rattle.issuer_host.specs.declared.code.Code.{Code}
 use Rattle.issuer_host.specs.declared.code.Code.TheVariants.{Approved, Declined, UnknownAccount, NoFunds, Expired, WrongPin}
@@ -12,6 +12,7 @@ code_bytes NoFunds = codes "51"
 code_bytes Expired = codes "54"
 code_bytes WrongPin = codes "55"
 
+-- whether the host's code is 00
 abbrev pub is_approved : Code → Bool
 is_approved Approved = true
 is_approved Declined = false

@@ -1,5 +1,5 @@
--- What a dialogue ends with (EMV 4.3 Book 4 section 6): the outcome, what the terminal holds then, and what is to be
--- captured.
+-- What a dialogue ends with (EMV 4.3 Book 4 section 6; EMV 4.3 Book 4 sections 6.3, 6.5): the outcome, what the
+-- terminal holds then, and what is to be captured.
 use Rattle.std.specs.Prelude.{ℕ, Bool, false, List, [], ◌∷◌, Option, Some, None, option_map, unwrap_or, Result, Ok, Err, is_some, if◌then◌else◌}
 use Rattle.emv_dict.specs.declared.ending.Ending.{Ending}
 use Rattle.emv_dict.specs.declared.ending.Ending.TheVariants.{Approved, Declined, Terminated, CutOff}

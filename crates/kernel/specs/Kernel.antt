@@ -31,6 +31,7 @@ pub record KernelData : Type 0 where
   -- its end was handed out
   pub is_spent : Bool
 
+-- the outset of a kernel
 abbrev pub outset_in : KernelData → Outset
 outset_in k = outset_of k.table
 
@@ -57,6 +58,7 @@ abbrev pub stage_next : Stage → Next
 stage_next (stage.Opening s) = opening_next s
 stage_next (stage.Trading at) = trading_next at.trading
 
+-- what a kernel waits for
 abbrev pub kernel_next : KernelData → Next
 kernel_next k = stage_next k.stage
 
@@ -66,6 +68,7 @@ deed_next (ToCard command) = next.ToCard
 deed_next (ToHost message) = next.ToHost
 deed_next (Over ending) = next.Ended
 
+-- what a dialogue waits for
 abbrev pub standing_next : Standing StepResult → Next
 standing_next standing = deed_next standing.deed
 
@@ -74,6 +77,7 @@ deed_bytes (ToCard command) = command
 deed_bytes (ToHost message) = message
 deed_bytes (Over ending) = []
 
+-- the command or message that a dialogue asks with
 abbrev pub told_bytes : Standing StepResult → List ℕ
 told_bytes standing = deed_bytes standing.deed
 

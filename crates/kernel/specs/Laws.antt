@@ -1,4 +1,4 @@
--- What holds of every dialogue.
+-- What holds of every dialogue (EMV 4.3 Book 3 section 10.4, Book 4 section 12.2 and Annex A1).
 use Rattle.std.specs.Prelude.{◌≡◌, ◌⊎◌, ℕ, ◌==◌, Bool, true, false, ◌&&◌, ◌||◌, not, List, [], ◌∷◌, ◌++◌, Option, Some, None, is_some, Result, Ok, Err}
 use Rattle.std.specs.Int.{bit_at}
 use Rattle.std.specs.List.{list_any}
@@ -147,11 +147,13 @@ pub record HostTold (outset : Outset) (s : Standing StepResult) : Type 0 where
   pub asked : asks_host s.deed ≡ true
       → (list_any is_online_request s.steps_done ≡ true) × (is_offline_only outset.settings.kind ≡ false) × (list_any is_sent s.steps_done ≡ false)
 
+-- what every dialogue tells of the host: unable without a message exactly where the card asks to go online at a
+-- terminal that never does, and else a message once where the card asks for it
 abbrev pub HostIsTold : Type 0
 HostIsTold = (outset : Outset) (replies : List Reply) → HostTold outset (dialogue outset replies)
 
--- an approval is presented; a request that was sent, with no reply read with a code other than 00 and an ending that
--- is no approval, is reversed; nothing else is captured
+-- something is captured exactly where the ending is an approval, or a request was sent and no reply with a code other
+-- than 00 was read; which of both messages it is, is said by `end_of`
 abbrev pub CapturesFit : Type 0
 CapturesFit =
     (outset : Outset) (replies : List Reply) (end : EndData) → end_of outset (dialogue outset replies) ≡ Some end
@@ -164,6 +166,7 @@ IsRestricted outset steps_done =
     ⊎ ((card : ReadCard) × (row : AidRow) × (later : List StepResult)
     × (steps_done ≡ later ++ HasRestricted (restricted card outset.settings row outset.purchase) ∷ HasRead card ∷ []))
 
+-- once the card is read the bits of the processing restrictions stand, and before that no step is finished
 abbrev pub ReadingRestricts : Type 0
 ReadingRestricts = (outset : Outset) (replies : List Reply) → IsRestricted outset (dialogue outset replies).steps_done
 
@@ -172,6 +175,7 @@ ReadingRestricts = (outset : Outset) (replies : List Reply) → IsRestricted out
 abbrev pub CapturesNothing : Outset → List Reply → Type 0
 CapturesNothing outset replies = (end : EndData) → end_of outset (dialogue outset replies) ≡ Some end → end.capture ≡ None
 
+-- nothing is captured at first, nor with the reply that finishes reading or ends the dialogue before
 pub record ReadingCapturesNothing : Type 0 where
   pub first : (outset : Outset) → CapturesNothing outset []
   pub read : (outset : Outset) (replies : List Reply) (reply : Reply) → latest sets_card None (dialogue outset replies).steps_done ≡ None

@@ -64,6 +64,7 @@ abbrev pub stage_rank : Table → Stage → ℕ
 stage_rank t (stage.Opening s) = opening_rank t s
 stage_rank t (stage.Trading at) = trading_rank t at.trading
 
+-- how many replies a kernel may still take at most
 abbrev pub kernel_rank : KernelData → ℕ
 kernel_rank k = stage_rank k.table k.stage
 

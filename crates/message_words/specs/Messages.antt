@@ -64,6 +64,7 @@ abbrev pub settled_of : Option MessageData → List ℕ → Settled
 settled_of None bytes = settled_by_tag bytes
 settled_of (Some message) bytes = settled_by_type message.kind
 
+-- which message of the settlement these bytes are
 unfoldable pub settled_by : List ℕ → Settled
 settled_by bytes = settled_of (iso_message_of bytes) bytes
 

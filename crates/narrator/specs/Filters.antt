@@ -30,6 +30,7 @@ is_left_by_ends Balance = true
 is_left_by_ends Done = true
 is_left_by_ends _ = false
 
+-- whether a filter leaves every line
 abbrev pub shows_all : Filter → Bool
 shows_all f = not f.ends && (is_none f.lane && is_none f.purchase)
 

@@ -20,6 +20,7 @@ pub record Manner : Type 0 where
   pub filter : Filter
   pub terminals : List Terminal
 
+-- the manner of a teller: its filter, and what it knows of the terminals
 abbrev pub manner_of : Narrator → Manner
 manner_of n = record { filter = n.filter; terminals = n.terminals.items }
 
@@ -28,6 +29,7 @@ pub record StateData : Type 0 where
   pub lanes : List LanePast
   pub cards : List CardSeen
 
+-- what a teller has kept of the lines before: of each lane, and of the cards' counters
 abbrev pub seen_state : Narrator → StateData
 seen_state n = record { lanes = n.lanes.items; cards = n.cards.items }
 

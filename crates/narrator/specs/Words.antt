@@ -55,12 +55,15 @@ differs_words entry = line 1 ++ text TRACE_DIFFERS.now ++ number entry ++ text O
 abbrev pub sent_words : Bool → List Terminal → ℕ → List ℕ → LanePast → List Piece
 sent_words brief terminals place bytes past = words_of_command past.talk bytes (row_for terminals place past.talk.name.items) brief
 
+-- an answer in words, behind what the lane's lines left
 abbrev pub given_words : Bool → List ℕ → LanePast → List Piece
 given_words brief bytes past = words_of_answer (without_command past.talk) past.talk.command.items bytes brief
 
+-- a message to the issuer in words, behind what the lane's lines left
 abbrev pub to_host_words : Bool → List ℕ → LanePast → List Piece
 to_host_words brief bytes past = call_words (fields_of past.talk.cdol1.items past.talk.first.items) bytes brief
 
+-- a reply of the issuer in words
 abbrev pub from_host_words : Bool → List ℕ → List Piece
 from_host_words brief bytes = reply_words Nothing bytes brief
 

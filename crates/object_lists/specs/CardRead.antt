@@ -1,4 +1,4 @@
--- What a terminal has of a card once its records are read.
+-- What a terminal has of a card once its records are read (EMV 4.3 Book 3 section 10.2).
 use Rattle.std.specs.Prelude.{◌≡◌, ℕ, List, [], Some, option_and_then, unwrap_or}
 use Rattle.std.specs.Result.{result_ok}
 use Rattle.emv_dict.specs.Pan.{pan_of}

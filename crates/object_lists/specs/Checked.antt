@@ -1,5 +1,5 @@
--- What a terminal tries once the records are read: the mandatory objects are there (EMV 4.3 Book 3
--- section 7.2), and the values have their forms (Annex A).
+-- What a terminal tries once the records are read: the mandatory objects are there (EMV 4.3 Book 3 section 7.2), and
+-- the values have their forms (Annex A; section 6.5.8.4).
 use Rattle.std.specs.Prelude.{ℕ, Bool, true, is_some, List, [], ◌∷◌, Option, Some, None, if◌then◌else◌}
 use Rattle.std.specs.Option.{option_or}
 use Rattle.emv_dict.specs.declared.ending.Cause.{Cause}

@@ -1,4 +1,4 @@
--- The data that an object list is filled with (EMV 4.3 Book 3 section 5.4).
+-- The data that an object list is filled with (EMV 4.3 Book 3 section 5.4; Annex A).
 use Rattle.std.specs.Prelude.{ℕ, ◌-◌, nat_lt, if◌then◌else◌, List, [], ◌∷◌, ◌++◌, length, take, drop, replicate, Option, Some, None, option_map, option_and_then}
 use Rattle.ber_tlv.specs.Tag.{names_template}
 use Rattle.emv_dict.specs.Dictionary.{row_in, dictionary}
@@ -45,6 +45,7 @@ abbrev pub data_of : ℕ → Option (Format × List ℕ) → List ℕ
 data_of count None = replicate count 0
 data_of count (Some (format, value)) = fitted format count value
 
+-- the data for one entry of a list: the object's value in the entry's length, or zeros
 abbrev pub entry_data : Entries → Entries → DolEntry → List ℕ
 entry_data card terminal entry = data_of entry.count (known card terminal entry.tag)
 

@@ -1,4 +1,4 @@
--- The data objects that stand in a byte string before its first fault.
+-- The data objects that stand in a byte string before its first fault (EMV 4.3 Book 3 Annex B).
 use Rattle.std.specs.Prelude.{ℕ, zero, suc, ◌+◌, ◌==◌, if◌then◌else◌, List, [], ◌∷◌, length, Option, Some, None, Result, Ok, Err, slice_get}
 use Rattle.ber_tlv.specs.Item.{ItemData, item_at}
 use Rattle.ber_tlv.specs.Seen.{seen}
@@ -20,6 +20,7 @@ leading_from zero bytes place = []
 leading_from (suc count) bytes place =
     items_by_byte (slice_get bytes place) (leading_from count bytes (place + 1)) (with_item (item_at bytes place) (leading_from count bytes))
 
+-- the objects of a string from a place on, before the first fault
 unfoldable pub leading_behind : List ℕ → ℕ → List ItemData
 leading_behind bytes place = leading_from (suc (length bytes)) bytes place
 

@@ -1,4 +1,4 @@
--- A card's answer to GENERATE AC (EMV 4.3 Book 3 section 6.5.5.4).
+-- A card's answer to GENERATE AC (EMV 4.3 Book 3 section 6.5.5.4; sections 10.8, 10.11).
 use Rattle.std.specs.Prelude.{ℕ, Bool, true, false, ◌+◌, ◌*◌, ◌==◌, ◌&&◌, ◌||◌, nat_le, if◌then◌else◌, List, [], length, drop, slice_index, slice_range, Option, Some, None, Result, Ok, Err}
 use Rattle.apdu_core.specs.Response.{ResponseData, response_of}
 use Rattle.apdu_core.specs.Status.{no_error}

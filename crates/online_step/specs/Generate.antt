@@ -1,5 +1,5 @@
--- GENERATE AC: its data, the command, and the step over a card's answers (EMV 4.3 Book 3 sections 6.5.5, 10.8
--- and 10.11).
+-- GENERATE AC: its data, the command, and the step over a card's answers (EMV 4.3 Book 3 sections 6.5.5, 10.8 and
+-- 10.11; section 5.4).
 use Rattle.std.specs.Prelude.{ℕ, nat_le, if◌then◌else◌, List, [], ◌∷◌, Option, Some, None, option_and_then, Result, Ok, Err}
 use Rattle.apdu_core.specs.Command.{command_bytes}
 use Rattle.emv_dict.specs.Kinds.{kind_byte}

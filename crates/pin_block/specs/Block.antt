@@ -1,4 +1,4 @@
--- PIN blocks of ISO 9564-1: eight bytes, sixteen hexadecimal digits.
+-- PIN blocks of ISO 9564-1: eight bytes, sixteen hexadecimal digits (EMV 4.3 Book 3 section 6.5.12).
 use Rattle.std.specs.Prelude.{ℕ, ◌-◌, ◌≤◌, List, ◌∷◌, ◌++◌, length, replicate}
 use Rattle.emv_dict.specs.Digits.{AllDecimal, least_pin, most_pin}
 use Rattle.emv_dict.specs.Nibbles.{packed}

@@ -1,4 +1,5 @@
--- Selection by the payment system directory (EMV 4.3 Book 1 section 12.3.2) as a step over the card's answers.
+-- Selection by the payment system directory (EMV 4.3 Book 1 section 12.3.2; section 12.2.2) as a step over the card's
+-- answers.
 use Rattle.std.specs.Prelude.{ℕ, ◌+◌, ◌++◌, ◌==◌, Bool, List, [], ◌∷◌, take, find, filter_map, Option, option_map, if◌then◌else◌}
 use Rattle.apdu_core.specs.Command.{record_command}
 use Rattle.app_select.specs.Candidates.{CandidateData, firsts, candidates}

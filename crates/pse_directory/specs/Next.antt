@@ -65,6 +65,7 @@ ListNextLeads whole answers (next.Found selecting) = Leads whole answers (select
 ListNextLeads whole answers (next.List selecting) = Leads whole answers (selecting_rest selecting)
 ListNextLeads whole answers (next.Ended cause) = Leads whole answers (λ _. Stopped cause)
 
+-- which of its results a call of the directory gives: the next command, why it ends, the list, or its own candidates
 abbrev pub ListNextIs : Progress (List CandidateData) → ListNext → Type 0
 ListNextIs (Wants command) (next.Ask state) = ⊤
 ListNextIs (Stopped why) (next.Ended cause) = cause ≡ why

@@ -1,5 +1,5 @@
 -- What the answers to SELECT of the directory and to READ RECORD in it say (EMV 4.3 Book 1 sections 11.2, 11.3 and
--- 12.2.3).
+-- 12.2.3; section 12.2.2).
 use Rattle.std.specs.Prelude.{ℕ, ◌&&◌, ◌==◌, nat_le, is_some, List, [], ◌∷◌, Option, Some, None, Result, Ok, Err, if◌then◌else◌}
 use Rattle.apdu_core.specs.Response.{ResponseData, response_of}
 use Rattle.apdu_core.specs.Status.{no_error, function_not_supported, record_not_found}

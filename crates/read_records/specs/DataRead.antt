@@ -27,6 +27,7 @@ card_from (Err cause) = Err cause
 unfoldable pub card_read : Opened → List (List ℕ) → Result ReadCard Cause
 card_read start answers = card_from (gathered_all start.entries (held_in_all start.left answers))
 
+-- a value, or its fault with the step in which it came
 abbrev pub at_step : {A : Type 0} → Step → Result A Cause → Result A (Step × Cause)
 at_step step (Ok value) = Ok value
 at_step step (Err cause) = Err (step, cause)
@@ -42,6 +43,7 @@ data_from (Granted start) answers = at_step Read (card_read start answers)
 abbrev pub data_read : List ℕ → List (List ℕ) → Result ReadCard (Step × Cause)
 data_read options answers = data_from (options_said options) answers
 
+-- reading is done with this card, or stopped by this cause
 abbrev pub finished : Result ReadCard Cause → List (List ℕ) → Progress ReadCard
 finished (Ok card) rest = Done card rest
 finished (Err cause) rest = Stopped cause

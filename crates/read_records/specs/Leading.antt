@@ -21,6 +21,7 @@ CourseNextLeads entries whole answers (course.Ask c) = Leads whole answers (read
 CourseNextLeads entries whole answers course.Done = Leads whole answers (Done (card_of_objects entries))
 CourseNextLeads entries whole answers (course.Ended cause) = Leads whole answers (λ _. Stopped cause)
 
+-- the whole goes on as the call for the answer to READ RECORD says
 abbrev pub ReadNextLeads : (List (List ℕ) → Progress ReadCard) → List (List ℕ) → ReadNext → Type 0
 ReadNextLeads whole answers (read.Ask r) = Leads whole answers (reading r)
 ReadNextLeads whole answers (read.Done card) = Leads whole answers (Done card)
@@ -50,6 +51,7 @@ OptionsNextLeads entries whole answers options.Refused = Leads whole answers (Do
 OptionsNextLeads entries whole answers (options.Read c) = Leads whole answers (Done (Some (record { entries = entries; left = c })))
 OptionsNextLeads entries whole answers (options.Ended cause) = Leads whole answers (λ _. Stopped cause)
 
+-- the whole goes on as the call for the answer to GET PROCESSING OPTIONS says
 abbrev pub InitiateNextLeads : (List (List ℕ) → Progress (Option Opened)) → List (List ℕ) → InitiateNext → Type 0
 InitiateNextLeads whole answers initiate.Refused = Leads whole answers (Done None)
 InitiateNextLeads whole answers (initiate.Read r) = Leads whole answers (Done (Some r))

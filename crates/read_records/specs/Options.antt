@@ -1,4 +1,4 @@
--- GET PROCESSING OPTIONS (EMV 4.3 Book 3 sections 6.5.8 and 10.1).
+-- GET PROCESSING OPTIONS (EMV 4.3 Book 3 sections 6.5.8 and 10.1; section 6.5.8.4).
 use Rattle.std.specs.Prelude.{ℕ, List, [], ◌∷◌, ◌==◌, nat_le, nat_lt, length, take, drop, Option, Some, None, Result, Ok, Err, if◌then◌else◌}
 use Rattle.apdu_core.specs.Command.{command_bytes}
 use Rattle.apdu_core.specs.Response.{ResponseData, response_of}
@@ -92,6 +92,7 @@ response_said (Some said) =
     else if said.status == no_error then granted_by (options_in said.body)
     else Faulty (cause.Status said.status)
 
+-- what the answer to GET PROCESSING OPTIONS says: refused, granted or faulty
 unfoldable pub options_said : List ℕ → OptionsSaid
 options_said answer = response_said (response_of answer)
 

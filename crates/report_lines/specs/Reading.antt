@@ -17,6 +17,7 @@ pub data EndingData : Type 0 where
   Terminated : List ℕ → List ℕ → List ℕ → EndingData
   Cut : List ℕ → EndingData
 
+-- an ending as contracts see it
 abbrev pub seen_ending : Ending → EndingData
 seen_ending of_ending.Approved = Approved
 seen_ending of_ending.Declined = Declined
@@ -80,6 +81,7 @@ pub record LineData : Type 0 where
   pub whose : WhoseData
   pub what : WhatData
 
+-- a line as contracts see it
 abbrev pub seen_line : ReportLine → LineData
 seen_line line = record { whose = seen_whose line.whose; what = seen_what line.what }
 

@@ -39,10 +39,12 @@ cryptogram_text (Some last) = codes " atc=" ++ encode_lower (two_bytes last.0) +
 abbrev pub scripts_text : List (List ℕ) → List ℕ
 scripts_text results = hex_or_dash (flat_map (λ result. result) results)
 
+-- the text of an end line behind the purchase's number
 unfoldable pub parts_text : EndParts → List ℕ
 parts_text parts = ending_text parts.ending ++ codes " tvr=" ++ encode_lower (tvr_bytes parts.tvr.0) ++ codes " tsi=" ++ encode_lower (two_bytes parts.tsi.0)
     ++ codes " cvm=" ++ encode_lower parts.cvm ++ codes " arc=" ++ arc_text parts.arc ++ cryptogram_text parts.atc_ac ++ codes " scripts=" ++ scripts_text parts.scripts.items
 
+-- the text of each line, one equation a kind of line
 unfoldable pub line_text : Line → List ℕ
 line_text (Power lane card apps) = codes "L" ++ decimal lane ++ codes " power " ++ card.items ++ all_shown apps.items ++ newline
 line_text (PowerCanned lane card) = codes "L" ++ decimal lane ++ codes " power " ++ card.items ++ codes " canned" ++ newline

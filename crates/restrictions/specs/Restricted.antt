@@ -1,4 +1,4 @@
--- Processing restrictions (EMV 4.3 Book 3 section 10.4).
+-- Processing restrictions (EMV 4.3 Book 3 section 10.4; sections 10.4.1 to 10.4.3).
 use Rattle.std.specs.Prelude.{ℕ, Bool, true, false, not, ◌&&◌, List, [], ◌∷◌, Option, Some, None, option_and_then}
 use Rattle.std.specs.Str.{bytes_eq}
 use Rattle.emv_dict.specs.Date.{date_of, is_earlier}

@@ -24,6 +24,7 @@ FindsRiskBits (Wants command) = ⊤
 FindsRiskBits (Stopped cause) = ⊤
 FindsRiskBits (Done judged rest) = AreRiskBits judged.tvr.0
 
+-- whatever the card answers, risk management finds no bit but its own
 abbrev pub RiskBitsAreOwn : Type 0
 RiskBitsAreOwn =
     (card : ReadCard) (settings : SettingsData) (row : AidRow) (purchase : PurchaseData) (log : List Logged) (answers : List (List ℕ))

@@ -1,4 +1,4 @@
--- Terminal risk management (EMV 4.3 Book 3 section 10.6).
+-- Terminal risk management (EMV 4.3 Book 3 section 10.6; sections 10.6.1, 10.6.2).
 use Rattle.std.specs.Prelude.{ℕ, ◌+◌, ◌==◌, Bool, true, false, not, ◌&&◌, ◌||◌, nat_lt, nat_le, if◌then◌else◌, List, [], ◌∷◌, fold, bit_and, slice_index, option_map, Option, Some, None, Result, Ok, Err}
 use Rattle.std.specs.List.{list_any}
 use Rattle.std.specs.Str.{bytes_eq}

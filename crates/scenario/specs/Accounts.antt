@@ -1,4 +1,4 @@
--- The tables of an account and of its scripts.
+-- The tables of an account and of its scripts (EMV 4.3 Book 2 section 8.2).
 use Rattle.std.specs.Prelude.{ℕ, ◌+◌, List, [], ◌∷◌, ◌++◌, codes, ◌==◌, Bool, true, false, not, nat_le, Result, Ok, Err, if◌then◌else◌}
 use Rattle.std.specs.List.{list_any}
 use Rattle.std.specs.Str.{bytes_eq}

@@ -71,6 +71,7 @@ records_from i j k earlier (item d ds) = do
   rs ← records_from i j (k + 1) (earlier ++ r ∷ []) ds
   Ok (r ∷ rs)
 
+-- the records of an application, no two of one number in one file, or the first fault
 unfoldable pub records_at : ℕ → ℕ → Members → Result (List RecordData) ScenarioFault
 records_at i j ms = do
   items ← array_at (in_app i j) (codes "record") 0 most_image_records ms
@@ -245,6 +246,7 @@ app_of i j keys earlier ms = do
   _ ← only (in_app i j) app_keys ms
   Ok (app_with keys files holder counters access extras)
 
+-- an application in its table, behind those before it, or its first fault
 unfoldable pub app_item : ℕ → ℕ → HostKeys → List AppData → Data → Result AppData ScenarioFault
 app_item i j keys earlier d = table_of (in_card i (item_path (codes "app") j [])) d >>= app_of i j keys earlier
 
@@ -264,6 +266,7 @@ apps_at i keys ms = do
 unfoldable pub canned_item : (List ℕ → List ℕ) → ℕ → Data → Result (List ℕ) ScenarioFault
 canned_item path j d = bytes_of (path (item_path (codes "canned") j [])) 0 258 d
 
+-- at most 300 canned answers of a card, or the first fault
 unfoldable pub canned_at : (List ℕ → List ℕ) → Members → Result (List (List ℕ)) ScenarioFault
 canned_at path ms = do
   items ← array_at path (codes "canned") 0 300 ms

@@ -1,4 +1,5 @@
--- The keys of an application behind its own key: a second currency, and the log of its transactions.
+-- The keys of an application behind its own key: a second currency, and the log of its transactions (EMV 4.3 Book 3
+-- Annex D).
 use Rattle.std.specs.Prelude.{ℕ, List, codes, Option, Result, Ok}
 use Rattle.card_files.specs.AppRules.{is_second_code, is_log_file, most_rows}
 use Rattle.card_files.specs.Lists.{leaves_room}

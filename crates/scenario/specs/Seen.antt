@@ -10,6 +10,7 @@ abbrev pub image_of : CardKind → ImageData
 image_of (App image) = image
 image_of (Canned answers) = no_image
 
+-- the canned answers of a card, where it has them
 abbrev pub canned_of : CardKind → Option (List (List ℕ))
 canned_of (App image) = None
 canned_of (Canned answers) = Some (map (λ answer. answer.items) answers.items)
@@ -25,5 +26,6 @@ seen_kind kind = record { image = image_of kind; canned = canned_of kind }
 unfoldable pub seen_card : NamedCard → CardData
 seen_card c = record { name = c.name.items; image = image_of c.kind; canned = canned_of c.kind }
 
+-- a scenario's cards as contracts see them
 abbrev pub seen_cards : List NamedCard → List CardData
 seen_cards cs = map seen_card cs

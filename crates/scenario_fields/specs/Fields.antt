@@ -35,48 +35,63 @@ or_default default read (Some d) = read d
 unfoldable pub number_at : (List ℕ → List ℕ) → List ℕ → ℕ → ℕ → Members → Result ℕ ScenarioFault
 number_at path key least most ms = required path key ms >>= number_of (path key) least most
 
+-- a number in its limits at a key, or the default
 unfoldable pub number_or : ℕ → (List ℕ → List ℕ) → List ℕ → ℕ → ℕ → Members → Result ℕ ScenarioFault
 number_or default path key least most ms = or_default default (number_of (path key) least most) (get_member key ms)
 
+-- a number in its limits at a key that may be absent
 unfoldable pub optional_number : (List ℕ → List ℕ) → List ℕ → ℕ → ℕ → Members → Result (Option ℕ) ScenarioFault
 optional_number path key least most ms = if_there (number_of (path key) least most) (get_member key ms)
 
+-- one of some numbers at a key, or the default
 unfoldable pub listed_or : ℕ → (List ℕ → List ℕ) → List ℕ → List ℕ → Members → Result ℕ ScenarioFault
 listed_or default path key numbers ms = or_default default (listed_of (path key) numbers) (get_member key ms)
 
+-- a flag at a key, or its default
 unfoldable pub flag_or : Bool → (List ℕ → List ℕ) → List ℕ → Members → Result Bool ScenarioFault
 flag_or default path key ms = or_default default (flag_of (path key)) (get_member key ms)
 
+-- a text at a key that must be there
 unfoldable pub str_at : (List ℕ → List ℕ) → List ℕ → Members → Result (List ℕ) ScenarioFault
 str_at path key ms = required path key ms >>= str_of (path key)
 
+-- a text of these characters and this length at a key that must be there
 unfoldable pub text_at : (List ℕ → List ℕ) → List ℕ → Characters → ℕ → ℕ → Members → Result (List ℕ) ScenarioFault
 text_at path key kind least most ms = required path key ms >>= text_of (path key) kind least most
 
+-- digits at a key that must be there
 unfoldable pub digits_at : (List ℕ → List ℕ) → List ℕ → ℕ → ℕ → Members → Result (List ℕ) ScenarioFault
 digits_at path key least most ms = required path key ms >>= digits_of (path key) least most
 
+-- digits at a key that may be absent
 unfoldable pub optional_digits : (List ℕ → List ℕ) → List ℕ → ℕ → ℕ → Members → Result (Option (List ℕ)) ScenarioFault
 optional_digits path key least most ms = if_there (digits_of (path key) least most) (get_member key ms)
 
+-- a code of three digits at a key that must be there
 unfoldable pub code_at : (List ℕ → List ℕ) → List ℕ → Members → Result (List ℕ) ScenarioFault
 code_at path key ms = required path key ms >>= code_of (path key)
 
+-- a code of three digits at a key that may be absent
 unfoldable pub optional_code : (List ℕ → List ℕ) → List ℕ → Members → Result (Option (List ℕ)) ScenarioFault
 optional_code path key ms = if_there (code_of (path key)) (get_member key ms)
 
+-- six digits at a key, or the default
 unfoldable pub six_digits_or : List ℕ → (List ℕ → List ℕ) → List ℕ → Members → Result (List ℕ) ScenarioFault
 six_digits_or default path key ms = or_default default (six_digits_of (path key)) (get_member key ms)
 
+-- a date at a key that must be there
 unfoldable pub day_at : (List ℕ → List ℕ) → List ℕ → Members → Result (List ℕ) ScenarioFault
 day_at path key ms = required path key ms >>= day_of (path key)
 
+-- bytes at a key that must be there
 unfoldable pub bytes_at : (List ℕ → List ℕ) → List ℕ → ℕ → ℕ → Members → Result (List ℕ) ScenarioFault
 bytes_at path key least most ms = required path key ms >>= bytes_of (path key) least most
 
+-- bytes at a key that may be absent
 unfoldable pub optional_bytes : (List ℕ → List ℕ) → List ℕ → ℕ → ℕ → Members → Result (Option (List ℕ)) ScenarioFault
 optional_bytes path key least most ms = if_there (bytes_of (path key) least most) (get_member key ms)
 
+-- an array of `least` to `most` elements at a key that must be there
 unfoldable pub array_at : (List ℕ → List ℕ) → List ℕ → ℕ → ℕ → Members → Result Items ScenarioFault
 array_at path key least most ms = required path key ms >>= array_of (path key) least most
 
@@ -84,9 +99,11 @@ array_at path key least most ms = required path key ms >>= array_of (path key) l
 unfoldable pub array_or_none : (List ℕ → List ℕ) → List ℕ → ℕ → Members → Result Items ScenarioFault
 array_or_none path key most ms = or_default no_items (array_of (path key) 0 most) (get_member key ms)
 
+-- a table at a key that must be there
 unfoldable pub table_at : (List ℕ → List ℕ) → List ℕ → Members → Result Members ScenarioFault
 table_at path key ms = required path key ms >>= table_of (path key)
 
+-- a table at a key that may be absent
 unfoldable pub optional_table : (List ℕ → List ℕ) → List ℕ → Members → Result (Option Members) ScenarioFault
 optional_table path key ms = if_there (table_of (path key)) (get_member key ms)
 
@@ -110,6 +127,7 @@ with_front front read = read >>= (λ rest. Ok (front ++ rest))
 unfoldable pub digits_item : (List ℕ → List ℕ) → List ℕ → ℕ → ℕ → ℕ → Data → Result (List ℕ) ScenarioFault
 digits_item path key least most i d = digits_of (path (item_path key i [])) least most d
 
+-- an array of texts of digits, empty where its key is absent
 unfoldable pub digits_list : (List ℕ → List ℕ) → List ℕ → ℕ → ℕ → ℕ → Members → Result (List (List ℕ)) ScenarioFault
 digits_list path key count least most ms = do
   items ← array_or_none path key count ms

@@ -19,6 +19,7 @@ abbrev pub within : List ℕ → ℕ → ℕ → ℤ → Result ℕ ScenarioFaul
 within path least most (pos n) = keep_if (nat_le least n && nat_le n most) (OutOfLimit path) n
 within path least most (negsuc n) = Err (OutOfLimit path)
 
+-- a whole number from `least` to `most`
 unfoldable pub number_of : List ℕ → ℕ → ℕ → Data → Result ℕ ScenarioFault
 number_of path least most d = or_fault (BadValue path) (as_integer d) >>= within path least most
 
@@ -30,9 +31,11 @@ abbrev pub among : List ℕ → List ℕ → ℤ → Result ℕ ScenarioFault
 among path numbers (pos n) = keep_if (is_listed n numbers) (BadValue path) n
 among path numbers (negsuc n) = Err (BadValue path)
 
+-- a whole number that is one of these
 unfoldable pub listed_of : List ℕ → List ℕ → Data → Result ℕ ScenarioFault
 listed_of path numbers d = or_fault (BadValue path) (as_integer d) >>= among path numbers
 
+-- true or false
 unfoldable pub flag_of : List ℕ → Data → Result Bool ScenarioFault
 flag_of path d = or_fault (BadValue path) (as_bool d)
 
@@ -112,5 +115,6 @@ array_of path least most d = do
   items ← or_fault (BadValue path) (as_array d)
   keep_if (nat_le least (count items) && nat_le (count items) most) (OutOfLimit path) items
 
+-- a table
 unfoldable pub table_of : List ℕ → Data → Result Members ScenarioFault
 table_of path d = or_fault (BadValue path) (as_table d)

@@ -1,4 +1,4 @@
--- What a script does, in other words.
+-- What a script does, in other words (EMV 4.3 Book 3 section 10.10).
 use Rattle.std.specs.Prelude.{◌≡◌, ⊤, true, is_some, List, [], ◌∷◌, ◌++◌, ℕ}
 use Rattle.apdu_core.specs.Command.{command_of}
 use Rattle.ber_tlv.specs.Written.{written}

@@ -1,4 +1,4 @@
--- A script as a contract sees it. Words and orders are seen as they are declared.
+-- A script as a contract sees it. Words and orders are seen as they are declared (EMV 4.3 Book 3 section 10.10).
 use Rattle.std.specs.Prelude.{ℕ, ◌≡◌, ◌≤◌, Bool, List, length, Option, IfSome}
 use Rattle.std.specs.List.{All}
 use Rattle.script_words.specs.Spelling.{IsWord}

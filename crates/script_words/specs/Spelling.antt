@@ -31,5 +31,6 @@ abbrev pub marked_bad : Bool → List ℕ → List ℕ
 marked_bad true text = text ++ codes " bad"
 marked_bad false text = text
 
+-- the text of an order, with ` bad` behind it where its code is made wrong
 abbrev pub order_text : Ordered → List ℕ
 order_text order = marked_bad order.bad (word_text order.word)

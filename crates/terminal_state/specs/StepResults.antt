@@ -1,5 +1,5 @@
 -- What the finished steps of a dialogue leave: which bits stand at a moment, and the other values that the terminal
--- then holds (EMV 4.3 Book 3 section 10 and Annexes C5 and C6).
+-- then holds (EMV 4.3 Book 3 section 10 and Annexes C5 and C6; Book 4 Annex A6).
 use Rattle.std.specs.Prelude.{ℕ, Bool, true, false, ◌==◌, not, if◌then◌else◌, List, [], ◌∷◌, ◌++◌, length, bit_or, Option, Some, None}
 use Rattle.std.specs.Str.{bytes_eq}
 use Rattle.auth_message.specs.Reply.{ReplyData}
@@ -183,6 +183,7 @@ pub record StateSoFarData : Type 0 where
   pub tvr_when_second : Option ℕ
   pub scripts : List (List ℕ)
 
+-- what the terminal holds once these steps are finished
 abbrev pub state_so_far : List StepResult → StateSoFarData
 state_so_far steps_done = record {
   tvr = union sets_tvr steps_done;

@@ -5,6 +5,7 @@ use Rattle.emv_dict.specs.Settings.{IsSettings, IsPurchase}
 use Rattle.terminal_state.specs.Terminal.{Outset}
 use Rattle.terminal_state.specs.declared.table.Table.{Table}
 
+-- the outset that lies on a table
 abbrev pub outset_of : Table → Outset
 outset_of t = record { settings = t.settings.now; purchase = t.purchase.now }
 

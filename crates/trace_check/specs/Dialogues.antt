@@ -64,6 +64,7 @@ of_host said.CardGone = false
 of_host (said.HostSaid reply) = true
 of_host said.HostSilent = true
 
+-- whether what the terminal did awaits this reply: a command the card's, a message the host's, an end none
 abbrev pub is_awaited : Deed → Reply → Bool
 is_awaited (said.ToCard command) reply = of_card reply
 is_awaited (said.ToHost message) reply = of_host reply

@@ -35,6 +35,7 @@ pub record IsLeast (outset : Outset) (entries : List Entry) (at : ℕ) : Type 0 
   pub least : at < length entries → IsFront outset (take (at + 1) entries) → ⊥
   pub within : at < length entries + 1
 
+-- the entry that a verdict names is the first with which the trace is no front of any dialogue's trace
 abbrev pub DiffersIsLeast : Type 0
 DiffersIsLeast = (outset : Outset) (entries : List Entry) (at : ℕ) → verdict outset entries ≡ Differs at → IsLeast outset entries at
 

@@ -17,6 +17,7 @@ abbrev pub TakenIf : Bool → KernelData → List Reply → Reply → Type 0
 TakenIf true after replies reply = KernelStands after (replies ++ reply ∷ [])
 TakenIf false after replies reply = Unit {0}
 
+-- a terminal takes an entry that is a reply which it awaits, and nothing else
 abbrev pub ReplyIsTaken : (Reply → Bool) → KernelData → List Reply → Option Reply → Bool → Type 0
 ReplyIsTaken awaited after replies None found = found ≡ false
 ReplyIsTaken awaited after replies (Some reply) found = (found ≡ awaited reply) × TakenIf found after replies reply

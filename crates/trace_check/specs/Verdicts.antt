@@ -47,5 +47,6 @@ abbrev pub verdict_on : SettingsData → List Planned → List Entry → Verdict
 verdict_on settings [] entries = Differs 0
 verdict_on settings (planned ∷ more) entries = verdict (record { settings = settings; purchase = planned.purchase }) entries
 
+-- the verdict on a trace: the same, or the first entry that differs or lacks
 abbrev pub verdict_of : TraceData → Verdict
 verdict_of trace = verdict_on trace.lane.settings trace.lane.purchases trace.entries

@@ -1,5 +1,5 @@
--- The tables of FIPS 46-3, each laid out as the standard prints it. Bits are numbered from 1 at the
--- left, and a table gives for each bit of its result the place of the bit that is taken.
+-- The tables of FIPS 46-3, each laid out as the standard prints it. Bits are numbered from 1 at the left, and a table
+-- gives for each bit of its result the place of the bit that is taken (FIPS 46-3 Appendix 1).
 use Rattle.std.specs.Prelude.{ℕ, List, [], ◌∷◌}
 
 -- IP, the initial permutation

@@ -91,6 +91,7 @@ is_lost_line l other = false
 abbrev pub AreLostAsTold : List Line → World → Type 0
 AreLostAsTold lines w = (l : ℕ) → lost_count (lane_at w l).ended ≡ count_by (is_lost_line l) lines
 
+-- in every run as many purchases of each lane were lost as its lines tell
 abbrev pub LostAreTold : Type 0
 LostAreTold =
     (s : ScenarioData) (place : RunPlace) (n : ℕ) (choices : List Bool) (lines : List Line) (w : World)

@@ -33,6 +33,7 @@ pub record IsClosed (w : World) : Type 0 where
   pub cards : (i : ℕ) → (card_at w i).pending ≡ None
   pub stores : (l : ℕ) → (lane_at w l).store.lost ≡ None
 
+-- where no tear leaves a choice, no decision and no lost call is ever open
 abbrev pub NoneIsOpen : Type 0
 NoneIsOpen =
     (s : ScenarioData) (place : RunPlace) (n : ℕ) (choices : List Bool) (lines : List Line) (w : World)
@@ -43,6 +44,7 @@ pub record IsSameRun (lines others : List Line) (w v : World) : Type 0 where
   pub told : lines ≡ others
   pub led : w ≡ v
 
+-- where no tear leaves a choice, a scenario has one run
 abbrev pub RunIsOne : Type 0
 RunIsOne =
     (s : ScenarioData) (lines others : List Line) (w v : World) → IsScenario s → LeavesNone s → Run s lines w → Run s others v

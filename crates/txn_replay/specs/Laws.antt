@@ -73,6 +73,7 @@ RunsAreFair =
 abbrev pub WholeRunsAreFair : Type 0
 WholeRunsAreFair = (s : ScenarioData) (lines : List Line) (w : World) → Run s lines w → IsFair s w
 
+-- every world that a run comes to is sound
 abbrev pub WorldsAreSound : Type 0
 WorldsAreSound =
     (s : ScenarioData) (place : RunPlace) (n : ℕ) (choices : List Bool) (lines : List Line) (w : World)
@@ -87,6 +88,7 @@ pub record LeavesOthers (s : ScenarioData) (w after : World) (l : ℕ) : Type 0 
   pub lanes : (k : ℕ) → k ≢ l → lane_at after k ≡ lane_at w k
   pub cards : (i : ℕ) → ((p : Payment) → next_of s w l ≡ Some p → i ≢ p.planned.card) → card_at after i ≡ card_at w i
 
+-- an exchange of one lane leaves every other lane, and every card but that of its purchase
 abbrev pub LanesStayApart : Type 0
 LanesStayApart = (s : ScenarioData) (w : World) (l : ℕ) (choices : List Bool) → LeavesOthers s w (happens s w (Turn l) choices).world l
 

@@ -47,6 +47,7 @@ abbrev pub data_by : ScenarioData → World → ℕ → Option (List Reply) → 
 data_by s w l (Some replies) = option_and_then (data_after replies) (next_of s w l)
 data_by s w l None = option_and_then past_card (last_past (lane_at w l).ended)
 
+-- what reading gave in the purchase that a lane began last
 abbrev pub data_at : ScenarioData → World → ℕ → Option ReadCard
 data_at s w l = data_by s w l (lane_at w l).running
 
@@ -54,6 +55,7 @@ data_at s w l = data_by s w l (lane_at w l).running
 abbrev pub latest_ending : List Past → Option Ending
 latest_ending pasts = option_and_then (λ past. option_map (λ end. end.ending) past.end) (last_past pasts)
 
+-- how a lane's latest purchase ended, where it has an end record
 abbrev pub ending_at : World → ℕ → Option Ending
 ending_at w l = latest_ending (lane_at w l).ended
 

@@ -20,6 +20,7 @@ abbrev pub all_below : ScenarioData → World → ℕ → Bool
 all_below s w zero = true
 all_below s w (suc l) = lane_over s w l && all_below s w l
 
+-- whether every purchase of every lane is over
 abbrev pub all_over : ScenarioData → World → Bool
 all_over s w = all_below s w (length s.lanes)
 
@@ -65,6 +66,7 @@ balance_line pan (Some amount) = Balance pan amount ∷ []
 abbrev pub account_lines : ScenarioData → World → AccountData → List Line
 account_lines s w account = balance_line account.pan (balance_after s.issuer s.accounts w.messages account.pan)
 
+-- how many purchases have ended
 abbrev pub ended_count : World → ℕ
 ended_count w = sum_by (λ lane. length lane.ended) w.lanes
 

@@ -86,6 +86,7 @@ pub record LaneAt (s : ScenarioData) (l : ℕ) (lane : Lane) (row : LaneRow) : T
   pub keeps : LaneKeeps lane row
   pub runs : RunFor lane row (payment_in s l (length row.ended))
 
+-- a value of the code stands for this world of a run
 pub record WorldStands (v : WorldSeen) (w : World) : Type 0 where
   pub sound : IsWorldSound v.scenario w
   pub few : (l : ℕ) → IsFewIn v.scenario l (lane_at w l)
@@ -138,6 +139,7 @@ abbrev pub done_below : List LaneData → List Lane → ℕ → Bool
 done_below terminals lanes zero = true
 done_below terminals lanes (suc l) = is_lane_done (slice_get terminals l) (slice_get lanes l) && done_below terminals lanes l
 
+-- whether every purchase is over, read off the value
 abbrev pub is_done : WorldSeen → Bool
 is_done v = done_below v.scenario.lanes v.lanes (length v.scenario.lanes)
 

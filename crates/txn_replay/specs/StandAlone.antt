@@ -91,6 +91,7 @@ pub record RunsAlone (pans : List ℕ → Bool) (s : ScenarioData) (l : ℕ) (li
   pub told : own ≡ filter (is_own pans s l) lines
   pub parts : PartsAgree pans s l w world
 
+-- in every run a lane that shares no card and no account with others runs as if it were alone
 abbrev pub LanesStandAlone : Type 0
 LanesStandAlone =
     (pans : List ℕ → Bool) (s : ScenarioData) (l : ℕ) (lines : List Line) (w : World) → IsScenario s → IsApart pans s l w → (run : Run s lines w)

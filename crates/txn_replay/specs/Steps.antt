@@ -138,6 +138,7 @@ unfoldable pub checks_from : ℕ → List CardData → List Check
 checks_from i [] = []
 checks_from i (card ∷ cards) = card_checks i card ++ checks_from (i + 1) cards
 
+-- the steps of the audit in their order; a card of canned answers is passed over
 abbrev pub checks : ScenarioData → List Check
 checks s = checks_from 0 s.cards
 

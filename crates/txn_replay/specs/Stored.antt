@@ -32,6 +32,7 @@ pub record StoresStand (s : ScenarioData) (w : World) : Type 0 where
   pub lanes : (l : ℕ) → StoredBy (durable_of s l) (lane_at w l)
   pub before : (l : ℕ) → ((lane_at w l).store.found ≡ None) ⊎ (all_over s w ≡ true)
 
+-- in every world of a run a store has at most seven messages, and room while a purchase runs
 abbrev pub StoresAreKept : Type 0
 StoresAreKept =
     (s : ScenarioData) (place : RunPlace) (n : ℕ) (choices : List Bool) (lines : List Line) (w : World)
@@ -56,6 +57,7 @@ pub record IsSettledTo (s : ScenarioData) (w : World) (k : ℕ) : Type 0 where
   pub behind : (l : ℕ) → durable_of s l ≡ true → length (settlements_from s 0 (take l w.lanes)) < k
       → IsThrough (lane_at w l).store s.copies (k - length (settlements_from s 0 (take l w.lanes)) - 1)
 
+-- in every run the settlement goes through what each opening of a store has found, step by step
 abbrev pub SettlementGoesThrough : Type 0
 SettlementGoesThrough =
     (s : ScenarioData) (k n : ℕ) (choices : List Bool) (lines : List Line) (w : World)
@@ -66,6 +68,7 @@ pub record IsEmptied (store : StoreRow) : Type 0 where
   pub empty : store.list ≡ []
   pub none : store.lost ≡ None
 
+-- in every run nothing is left in a store behind the settlement, and no call is lost
 abbrev pub StoresAreEmptied : Type 0
 StoresAreEmptied =
     (s : ScenarioData) (place : RunPlace) (n : ℕ) (choices : List Bool) (lines : List Line) (w : World) (l : ℕ)

@@ -86,6 +86,7 @@ pub record LeavesGiven (s : ScenarioData) (w : World) (k : ℕ) (choices : List 
   pub settle : (i : ℕ) → (card_at (happens s w (Settle k) choices).world i).given ≡ (card_at w i).given
   pub audit : (i : ℕ) → (card_at (happens s w (Audit k) choices).world i).given ≡ (card_at w i).given
 
+-- the settlement and the audit leave each card's rows of cryptograms
 abbrev pub GivenIsLeft : Type 0
 GivenIsLeft = (s : ScenarioData) (w : World) (k : ℕ) (choices : List Bool) → LeavesGiven s w k choices
 

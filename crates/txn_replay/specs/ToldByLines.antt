@@ -46,6 +46,7 @@ losses_told name lines = losses_told_behind name [] lines
 abbrev pub HasLosses : ScenarioData → List Line → World → Type 0
 HasLosses s lines w = (i : ℕ) (card : CardData) → slice_get s.cards i ≡ Some card → (card_at w i).losses ≡ losses_told card.name lines
 
+-- in every run a card has lost its power as often as the lines tell
 abbrev pub RunsTellLosses : Type 0
 RunsTellLosses =
     (s : ScenarioData) (place : RunPlace) (n : ℕ) (choices : List Bool) (lines : List Line) (w : World)
@@ -133,6 +134,7 @@ pub record IsLaneTold (s : ScenarioData) (l : ℕ) (row : LaneRow) (t : LaneTold
   pub heard : (replies : List Reply) → row.running ≡ Some replies → t.heard ≡ heard_in (payment_in s l (length row.ended)) replies
   pub rests : row.running ≡ None → t.heard ≡ []
 
+-- in every run the lines of a lane between a power line and an end line are the replies of that purchase
 abbrev pub RunsTellReplies : Type 0
 RunsTellReplies =
     (s : ScenarioData) (place : RunPlace) (n : ℕ) (choices : List Bool) (lines : List Line) (w : World) (l : ℕ)
@@ -160,6 +162,7 @@ pub record EndsSo (s : ScenarioData) (l number : ℕ) (past : Past) : Type 0 whe
   pub ends : (end : EndData) → past.end ≡ Some end → end_at payment past.replies ≡ Some end
   pub there : past.lost ≡ false → is_some past.end ≡ true
 
+-- an end record is that of the purchase's dialogue over its replies, and only a lost purchase may have none
 abbrev pub PastsEnd : Type 0
 PastsEnd =
     (s : ScenarioData) (place : RunPlace) (n : ℕ) (choices : List Bool) (lines : List Line) (w : World) (l number : ℕ) (past : Past)

@@ -65,6 +65,7 @@ pub record LaneRow : Type 0 where
   -- where a lane that keeps its captures durably has them
   pub store : StoreRow
 
+-- what has happened: a row of each card, a row of each lane, and the messages that came to the issuer's host
 pub record World : Type 0 where
   pub cards : List CardRow
   pub lanes : List LaneRow
@@ -77,6 +78,7 @@ new_card = record { kept = []; pending = None; session = []; made = 0; told = 0;
 abbrev pub new_lane : LaneRow
 new_lane = record { ended = []; running = None; began = None; log = []; captures = []; sent = []; store = new_store }
 
+-- the world before anything has happened
 abbrev pub first_world : ScenarioData → World
 first_world s = record { cards = map (λ card. new_card) s.cards; lanes = map (λ lane. new_lane) s.lanes; messages = [] }
 

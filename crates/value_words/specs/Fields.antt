@@ -50,6 +50,7 @@ filled_entries [] bytes = []
 filled_entries (entry ∷ entries) bytes =
     if nat_le entry.1 (length bytes) then (entry.0, take entry.1 bytes) ∷ filled_entries entries (drop entry.1 bytes) else []
 
+-- the entries of a data object list with their part of the data, as far as these go
 unfoldable pub fields_of : List ℕ → List ℕ → List (ℕ × List ℕ)
 fields_of list bytes = filled_entries (list_entries list).0 bytes
 

@@ -1,4 +1,5 @@
--- Values that are lists, in words: rules, groups of records, entries.
+-- Values that are lists, in words: rules, groups of records, entries (EMV 4.3 Book 3 sections 5.4, 10.2, 10.5, Book 4
+-- Annex A4).
 use Rattle.std.specs.Prelude.{ℕ, ◌/◌, ◌%◌, ◌==◌, Bool, false, not, ◌&&◌, nat_le, if◌then◌else◌, List, [], ◌∷◌, ◌++◌, length, map, take, drop, slice_index, codes, Option, Some, None}
 use Rattle.report_lines.specs.Pieces.{Piece, line, text, number, hex, joined}
 use Rattle.ber_tlv.specs.Written.{tag_bytes}
@@ -78,5 +79,6 @@ entry_words entry = hex (tag_bytes entry.0) ++ text (codes ":") ++ number entry.
 abbrev pub entries_words : List ℕ → List Piece
 entries_words list = joined false (text (codes " ")) (map entry_words (list_entries list).0)
 
+-- a data object list in words, entry by entry, where it can be read whole
 abbrev pub list_words : List ℕ → Option (List Piece)
 list_words list = told_if (is_whole_list list && not (length list == 0)) (entries_words list)
