@@ -44,7 +44,7 @@ pub const OPENED: Counts = Counts {
 };
 
 /// A state with these counts, a limit of 30.00 in its second currency, and a log of at most three rows.
-pub fn app_of(counts: Counts) -> AppState {
+pub(crate) fn app_of(counts: Counts) -> AppState {
     let pin = counts.pin;
     AppState {
         counter: counts.counter,
@@ -401,7 +401,7 @@ fn a_steering_does_what_its_bits_say(rt: HostRuntime) {
 }
 
 /// The row of a sale.
-pub fn row(counter: u16, kind: u8, sale: Sale) -> LogRow {
+pub(crate) fn row(counter: u16, kind: u8, sale: Sale) -> LogRow {
     let Sale {
         raw,
         currency,

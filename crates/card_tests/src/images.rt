@@ -26,7 +26,7 @@ pub fn name_of(rt: &impl Abort, bytes: &[u8]) -> Name {
     Name::new(bytes).expect(rt, "a name")
 }
 
-pub fn record_of(alloc: Global, sfi: u8, number: u8, size: usize) -> Result<RecordImage, Fail> {
+pub(crate) fn record_of(alloc: Global, sfi: u8, number: u8, size: usize) -> Result<RecordImage, Fail> {
     Ok(RecordImage {
         sfi,
         number,
@@ -79,7 +79,7 @@ pub fn app_of(rt: &impl Abort, alloc: Global) -> Result<AppImage, Fail> {
     })
 }
 
-pub fn image_of(alloc: Global, app: AppImage) -> Result<Result<Image, ImageFault>, Fail> {
+pub(crate) fn image_of(alloc: Global, app: AppImage) -> Result<Result<Image, ImageFault>, Fail> {
     let mut apps = Vec::new(alloc);
     apps.push(app)?;
     Ok(Image::new(apps, 2, None))
@@ -195,7 +195,7 @@ fn list_of(alloc: Global, entries: u8, more: &[u8]) -> Result<Vec<u8>, Fail> {
 }
 
 /// A hundred entries 9A 02 in 200 bytes.
-pub fn long_list(alloc: Global) -> Result<Vec<u8>, Fail> {
+pub(crate) fn long_list(alloc: Global) -> Result<Vec<u8>, Fail> {
     list_of(alloc, 100, &[])
 }
 
@@ -237,7 +237,7 @@ fn a_log_has_no_room_beside_the_longest_list(rt: HostRuntime) -> Result<(), Fail
 }
 
 /// Whether the answer is this key of the application of this number.
-pub fn is_field(answer: Result<Image, ImageFault>, number: u8, name: &str) -> bool {
+pub(crate) fn is_field(answer: Result<Image, ImageFault>, number: u8, name: &str) -> bool {
     match answer {
         Ok(_image) => false,
         Err(fault) => is_key(&fault, number, name),

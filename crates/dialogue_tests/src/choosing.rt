@@ -13,7 +13,7 @@ use std::process::Abort;
 
 /// The bytes of hexadecimal digits, or of a text with a name: SELECT of the directory, and its answer where
 /// the records stand in file 1; SELECT of the first application, and the answer of a plain card.
-pub fn meant(word: &str) -> ArrayVec<u8, 261> {
+pub(crate) fn meant(word: &str) -> ArrayVec<u8, 261> {
     bytes(match word {
         "name" => "00a404000e315041592e5359532e444446303100",
         "dir" => "6f15840e315041592e5359532e4444463031a5038801019000",
@@ -93,7 +93,7 @@ pub fn selected<'s>(rt: &impl Abort, next: SelectNext<'s>, exchange: &str) -> Se
 }
 
 /// Whether selection ends like this: with a cause, or with the chosen AID and the object list of the application.
-pub fn ends(next: SelectNext<'_>, end: &str) -> bool {
+pub(crate) fn ends(next: SelectNext<'_>, end: &str) -> bool {
     match next {
         SelectNext::Ask(_) => false,
         SelectNext::Chosen(selected) => {

@@ -13,7 +13,7 @@ fn digit(letter: u8) -> u8
     }
 }
 
-pub fn bytes(text: &str) -> ArrayVec<u8, 261> {
+pub(crate) fn bytes(text: &str) -> ArrayVec<u8, 261> {
     let letters = text.as_bytes();
     let mut bytes = ArrayVec::new();
     for place in 0..letters.len() / 2 {
@@ -24,7 +24,7 @@ pub fn bytes(text: &str) -> ArrayVec<u8, 261> {
 }
 
 /// The number that hexadecimal digits write.
-pub fn number(text: &str) -> u32 {
+pub(crate) fn number(text: &str) -> u32 {
     let mut number = 0u32;
     for letter in text.as_bytes() {
         number = number

@@ -34,7 +34,7 @@ genuine_chain false false false false false true above message own expiry day am
 genuine_chain false false false false false false true message own expiry day amount balance = refl
 genuine_chain false false false false false false false message own expiry day amount balance = refl
 
-genuine_code : (keys : HostKeys) (account : AccountData) (books : Books) (f : RequestData) → code_of_reason (genuine_reason keys account books f) ≡ Some (request_code keys account books f)
+pub genuine_code : (keys : HostKeys) (account : AccountData) (books : Books) (f : RequestData) → code_of_reason (genuine_reason keys account books f) ≡ Some (request_code keys account books f)
 unfolding genuine_reason request_code
 genuine_code keys account books f =
     genuine_chain account.blocked (not (bytes_eq f.paid.t5f2a account.currency)) (is_some (kept_at (request_key f) books.reversals)) (is_some (kept_at (request_key f) books.presentments))
@@ -50,7 +50,7 @@ booking_chain false true released message own amount held = refl
 booking_chain false false true message own amount held = refl
 booking_chain false false false message own amount held = refl
 
-booking_code : (keys : HostKeys) (account : AccountData) (books : Books) (f : PresentData) → code_of_reason (booking_reason keys account books f) ≡ Some (present_code keys account books f)
+pub booking_code : (keys : HostKeys) (account : AccountData) (books : Books) (f : PresentData) → code_of_reason (booking_reason keys account books f) ≡ Some (present_code keys account books f)
 unfolding booking_reason present_code
 booking_code keys account books f =
     booking_chain (not (present_is_genuine keys f)) (not (bytes_eq f.paid.t5f2a account.currency)) (is_released books (present_key f))

@@ -1,9 +1,6 @@
 //! The host's decisions.
-ghost use Rattle.std.specs.Prelude.{◌≡◌, ◌≤◌, ◌-ℤ◌, pos, length, Some};
-ghost use Rattle.std.specs.Str.{bytes_eq};
+ghost use Rattle.std.specs.Prelude.{◌≡◌};
 ghost use Rattle.issuer_host.specs.Account.{IsAccount};
-ghost use Rattle.issuer_host.specs.Balance.{taken_in_all};
-ghost use Rattle.issuer_host.specs.Records.{balance_left};
 ghost use Rattle.issuer_host.specs.Reply as spec;
 ghost use Rattle.issuer_host.specs.Reply.{request_key as key_of_request, present_key as key_of_present, reversal_key as key_of_reversal, session_of, ac_fields_of, date_of_digits, pin_is_wrong as pin_spec};
 
@@ -14,7 +11,7 @@ use crate::records::Records;
 use app_cryptogram::{AcFields, ac};
 use auth_message::{Paid, PresentFields, RequestFields, ReversalFields};
 use card_keys::{master_key, session_ac};
-use emv_dict::{Date, Digits, amount_of, two_digit_number};
+use emv_dict::{Date, Digits, two_digit_number};
 use host_ledger::Key;
 use pin_block::online_block;
 use triple_des::Key16;
@@ -132,65 +129,6 @@ pub fn pin_is_wrong(key: &Key16, account: &Account, block: Option<[u8; 8]>) -> b
         Some(pin) => online_block(key, pin, &account.pan) != sent,
         None => true,
     }
-}
-
-/// The decision on a genuine request: the first reason to decline it that holds.
-#[tactic(auto, unfolding(crate::specs::Reply::request_code))]
-pub fn request_code(
-    keys: &HostKeys,
-    account: &Account,
-    records: &Records,
-    key: &Key,
-    fields: &RequestFields,
-) -> Code
-    requires account { IsAccount account.now }
-    requires key { key.now ≡ key_of_request fields.now }
-    requires known { balance_left records.now account.now.pan ≡ Some (pos account.now.balance -ℤ pos (taken_in_all account.now.pan records.now.books)) }
-    ensures { result ≡ spec.request_code keys.now account.now records.now.books fields.now }
-{
-    if account.blocked {
-        return Code::Declined;
-    }
-    if fields.paid.t5f2a != account.currency {
-        return Code::Declined;
-    }
-    if records.is_closed(key) {
-        return Code::Declined;
-    }
-    if day(fields.t5f24).is_before(&day(fields.paid.t9a)) {
-        return Code::Expired;
-    }
-    if pin_is_wrong(&keys.pin, account, fields.tdf11) {
-        return Code::WrongPin;
-    }
-    if !records.covers(account, amount_of(fields.paid.t9f02)) {
-        return Code::NoFunds;
-    }
-    Code::Approved
-}
-
-/// The decision on a presentment.
-#[tactic(auto, unfolding(crate::specs::Reply::present_code))]
-pub fn present_code(
-    keys: &HostKeys,
-    account: &Account,
-    records: &Records,
-    key: &Key,
-    fields: &PresentFields,
-) -> Code
-    requires { key.now ≡ key_of_present fields.now }
-    ensures { result ≡ spec.present_code keys.now account.now records.now.books fields.now }
-{
-    if !present_is_genuine(keys, key, fields) {
-        return Code::Declined;
-    }
-    if fields.paid.t5f2a != account.currency {
-        return Code::Declined;
-    }
-    if records.is_released(key) {
-        return Code::Declined;
-    }
-    Code::Approved
 }
 
 /// The decision on a reversal.

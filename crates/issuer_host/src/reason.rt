@@ -1,3 +1,7 @@
+ghost use Rattle.std.specs.Prelude.{◌≡◌};
+ghost use Rattle.issuer_host.specs.Reasons.{code_of_reason};
+
+use crate::code::Code;
 use auth_message::MessageFault;
 
 /// Why the host replies to a message as it does. Of several reasons it is the first, in the order in which
@@ -38,4 +42,24 @@ pub enum Reason {
     Released { amount: u64 },
     /// 00: the reversal releases nothing, since no request of its transaction was approved.
     NothingHeld,
+}
+
+impl Reason {
+    /// The code of a reply with this reason, `None` for a repeat, which has the code of the kept reply.
+    pub fn code(self) -> Option<Code>
+        ensures { result ≡ code_of_reason self }
+    {
+        match self {
+            Reason::Repeat => None,
+            Reason::UnknownAccount => Some(Code::UnknownAccount),
+            Reason::Expired { .. } => Some(Code::Expired),
+            Reason::WrongPin => Some(Code::WrongPin),
+            Reason::AboveBalance { .. } => Some(Code::NoFunds),
+            Reason::Approved { .. } => Some(Code::Approved),
+            Reason::Settled { .. } => Some(Code::Approved),
+            Reason::Released { .. } => Some(Code::Approved),
+            Reason::NothingHeld => Some(Code::Approved),
+            _ => Some(Code::Declined),
+        }
+    }
 }

@@ -1,5 +1,5 @@
 //! Why the host replies as it does: the rules of its decisions once more, with their numbers.
-ghost use Rattle.std.specs.Prelude.{◌≡◌, Some, map, option_map, if◌then◌else◌};
+ghost use Rattle.std.specs.Prelude.{◌≡◌, IsSome, Some, map, option_map, if◌then◌else◌};
 ghost use Rattle.std.specs.List.{All};
 ghost use Rattle.std.specs.Str.{bytes_eq};
 ghost use Rattle.host_ledger.specs.declared.key.Key.{Key};
@@ -10,13 +10,14 @@ ghost use Rattle.issuer_host.specs.Books.{kept_at};
 ghost use Rattle.issuer_host.specs.Holds.{opening_balance};
 ghost use Rattle.issuer_host.specs.Keeping.{kept_message};
 ghost use Rattle.issuer_host.specs.Reasons as spec;
-ghost use Rattle.issuer_host.specs.Reasons.{left_on, reason_in};
+ghost use Rattle.issuer_host.specs.Reasons.{code_of_reason, left_on, reason_in};
 ghost use Rattle.issuer_host.specs.Records.{balance_left};
-ghost use Rattle.issuer_host.specs.Reply.{request_key as key_of_request, present_key as key_of_present, reversal_key as key_of_reversal};
+ghost use Rattle.issuer_host.specs.Reply.{request_key as key_of_request, present_key as key_of_present, reversal_key as key_of_reversal, request_code as code_of_request, present_code as code_of_present};
 ghost use Rattle.issuer_host.specs.declared.reason.Reason.TheVariants.{Repeat, OtherBytes, OtherCurrency};
 
 use crate::account::Account;
 use crate::accounts::{account_at, place_of};
+use crate::code::Code;
 use crate::decision::{
     day, is_made_under, pin_is_wrong, present_is_genuine, present_key, request_key, reversal_key,
     session,
@@ -111,6 +112,23 @@ fn genuine_reason(
     Reason::Approved { amount }
 }
 
+/// The decision on a genuine request of an account: the code of its reason.
+#[tactic(auto, using(crate::proofs::Reasons::genuine_code))]
+pub fn request_code(
+    keys: &HostKeys,
+    account: &Account,
+    records: &Records,
+    key: &Key,
+    fields: &RequestFields,
+) -> Code
+    requires account { IsAccount account.now }
+    requires key { key.now ≡ key_of_request fields.now }
+    requires known { balance_left records.now account.now.pan ≡ Some (left_on account.now records.now.books) }
+    ensures { result ≡ code_of_request keys.now account.now records.now.books fields.now }
+{
+    decided(genuine_reason(keys, account, records, key, fields))
+}
+
 /// The reason of the reply to a presentment.
 fn present_reason(
     keys: &HostKeys,
@@ -155,6 +173,32 @@ fn booking_reason(
     Reason::Settled {
         amount: amount_of(fields.paid.t9f02),
         held: approved_request(records, key),
+    }
+}
+
+/// The decision on a presentment of an account: the code of its reason.
+#[tactic(auto, using(crate::proofs::Reasons::booking_code))]
+pub fn present_code(
+    keys: &HostKeys,
+    account: &Account,
+    records: &Records,
+    key: &Key,
+    fields: &PresentFields,
+) -> Code
+    requires { key.now ≡ key_of_present fields.now }
+    ensures { result ≡ code_of_present keys.now account.now records.now.books fields.now }
+{
+    decided(booking_reason(keys, account, records, key, fields))
+}
+
+/// The code of a reason that isn't a repeat.
+fn decided(reason: Reason) -> Code
+    requires { IsSome (code_of_reason reason) }
+    ensures { Some result ≡ code_of_reason reason }
+{
+    match reason.code() {
+        Some(code) => code,
+        None => unreachable!(),
     }
 }
 

@@ -1,20 +1,18 @@
 //! The messages that the host keeps, and the ledger that goes with them.
-ghost use Rattle.std.specs.Prelude.{◌≡◌, ◌≤◌, ◌-ℤ◌, ◌≤ℤ◌, pos, [], ◌∷◌, ◌++◌, None, Some, IsTrue, IsSome, IfOk, IfErr, OnOk, OnErr, option_map, true, false, not, int_lt, length};
+ghost use Rattle.std.specs.Prelude.{◌≡◌, ◌≤◌, [], ◌∷◌, ◌++◌, None, Some, IsSome, IfOk, IfErr, OnOk, OnErr, option_map, true, false, not, length};
 ghost use Rattle.std.specs.List.{All};
 ghost use Rattle.emv_dict.specs.Settings.{most_amount};
 ghost use Rattle.host_ledger.specs.Accounts.{RefusesAccounts, AreDistinctBelow, opening_balance_of, balance_of, KeepsEntry};
 ghost use Rattle.host_ledger.specs.Entries.{entry_at};
 ghost use Rattle.host_ledger.specs.Refusals.{hold_refusal, settle_refusal};
 ghost use Rattle.host_ledger.specs.declared.entry.EntryState.TheVariants.{Held, Booked, Released};
-ghost use Rattle.issuer_host.specs.Balance.{taken_in_all, is_booked, is_released};
+ghost use Rattle.issuer_host.specs.Balance.{is_booked, is_released};
 ghost use Rattle.host_ledger.specs.declared.key.Key.{Key};
 ghost use Rattle.issuer_host.specs.Books.{no_books, kept_at, was_approved};
-ghost use Rattle.issuer_host.specs.Reply.{is_closed};
 ghost use Rattle.issuer_host.specs.Code.{is_approved};
 ghost use Rattle.issuer_host.specs.Keeping.{kept_message};
 ghost use Rattle.issuer_host.specs.Records.{is_open, balance_left};
 
-use crate::account::Account;
 use crate::keeping::{Keeping, KeptMessage};
 use emv_dict::Digits;
 use host_ledger::{Key, Ledger, LedgerFault};
@@ -101,24 +99,6 @@ impl Records {
         ensures { result ≡ is_released self.now.books key.now }
     {
         was_approved(self.reversal(key))
-    }
-
-    /// Whether a reversal or a presentment of the transaction was kept.
-    pub fn is_closed(&self, key: &Key) -> bool
-        ensures { result ≡ is_closed self.now.books key.now }
-    {
-        self.reversal(key).is_some() || self.presentment(key).is_some()
-    }
-
-    /// Whether the account's balance covers an amount.
-    pub fn covers(&self, account: &Account, amount: u64) -> bool
-        requires { balance_left self.now account.now.pan ≡ Some (pos account.now.balance -ℤ pos (taken_in_all account.now.pan self.now.books)) }
-        ensures { result ≡ not (int_lt (pos account.now.balance -ℤ pos (taken_in_all account.now.pan self.now.books)) (pos amount)) }
-    {
-        match self.balance(&account.pan) {
-            Some(balance) => balance >= i128::from(amount),
-            None => unreachable!(),
-        }
     }
 
     /// Keeps the first request of a transaction. An approved one holds its amount.

@@ -10,10 +10,9 @@ ghost use Rattle.issuer_host.specs.Reply.{request_key as key_of_request, present
 
 use crate::account::Account;
 use crate::code::Code;
-use crate::decision::{
-    is_made_under, present_code, request_code, request_key, reversal_code, session,
-};
+use crate::decision::{is_made_under, request_key, reversal_code, session};
 use crate::keys::HostKeys;
+use crate::reasoning::{present_code, request_code};
 use crate::records::Records;
 use crate::response::issuer_data;
 use crate::script::{ScriptBytes, ScriptKeys, write_scripts};

@@ -2,7 +2,7 @@
 use auth_message::Message;
 
 /// The message with more bytes behind it, and with other bytes at these places.
-pub fn changed(message: &[u8], changes: &[(usize, u8)], more: &[u8]) -> Message {
+pub(crate) fn changed(message: &[u8], changes: &[(usize, u8)], more: &[u8]) -> Message {
     let mut bytes = Message::new();
     for part in [message, more] {
         for byte in part {

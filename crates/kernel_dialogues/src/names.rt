@@ -187,7 +187,7 @@ const NAMES: [(&str, &str); 57] = [
 ];
 
 /// The text of this name, or the word itself where it is none.
-pub fn text_of(word: &str) -> &str {
+pub(crate) fn text_of(word: &str) -> &str {
     for (name, text) in &NAMES {
         if *name == word {
             return text;

@@ -122,7 +122,7 @@ fn digit_of(letter: u8) -> u8
 }
 
 /// Puts the bytes of a hexadecimal text, at most so many as fit, in place of what `bytes` held.
-pub fn put_bytes<const N: usize>(bytes: &mut ArrayVec<u8, N>, text: &str) {
+pub(crate) fn put_bytes<const N: usize>(bytes: &mut ArrayVec<u8, N>, text: &str) {
     let letters = text.as_bytes();
     bytes.clear();
     for place in 0..letters.len() / 2 {
@@ -159,7 +159,7 @@ fn two_of(text: &str) -> [u8; 2] {
 
 impl<'t> Outset<'t> {
     /// The base with these differences, words as `kind=23`.
-    pub fn read(words: &'t str) -> Outset<'t> {
+    pub(crate) fn read(words: &'t str) -> Outset<'t> {
         let mut outset = BASE;
         for word in words.split(" ") {
             let (key, value) = word.split_once('=').unwrap_or((word, ""));
@@ -317,7 +317,7 @@ impl<'t> Outset<'t> {
     }
 
     /// The number of the call with which the log is handed in, 0 where it is with each.
-    pub fn call(&self) -> u64 {
+    pub(crate) fn call(&self) -> u64 {
         let (_, call) = self.log.split_once('@').unwrap_or(("", ""));
         number_of(call)
     }
@@ -365,7 +365,7 @@ fn own(words: &str, number: usize) -> &str {
 }
 
 /// The digits of a decimal text.
-pub fn digits_of(text: &str) -> Result<Digits, Difference> {
+pub(crate) fn digits_of(text: &str) -> Result<Digits, Difference> {
     let mut digits: ArrayVec<u8, 19> = ArrayVec::new();
     for letter in text.bytes() {
         let _ = digits.try_push(digit_of(letter));

@@ -22,7 +22,7 @@ pub struct DialogueBuffers {
 
 impl DialogueBuffers {
     /// Empty room.
-    pub fn new() -> DialogueBuffers {
+    pub(crate) fn new() -> DialogueBuffers {
         DialogueBuffers {
             bytes: Message::new(),
             captured: Message::new(),
@@ -69,7 +69,7 @@ struct Parts<'t> {
 /// prints it, and behind ` | ` what is captured. Bytes are hexadecimal digits or a name, and `-` stands for
 /// none. A host's exchange begins with `host`; a card can be `gone`, and a silent host says `none`.
 /// Behind it the dialogue is played `again` times more in the same terminal.
-pub fn play(
+pub(crate) fn play(
     alloc: Global,
     line: &str,
     again: u32,

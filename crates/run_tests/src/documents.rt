@@ -9,7 +9,7 @@ use std::alloc::Global;
 use std::test::Fail;
 
 /// The scenario of the document with these changes.
-pub fn read(alloc: Global, changes: &[(&str, &str)]) -> Result<Scenario, Fail> {
+pub(crate) fn read(alloc: Global, changes: &[(&str, &str)]) -> Result<Scenario, Fail> {
     let text = changed(alloc, BASE, changes)?;
     Ok(
         read_scenario(alloc, text.as_bytes())

@@ -8,7 +8,7 @@ use std::alloc::Global;
 use std::process::Abort;
 use std::test::Fail;
 
-pub fn words_of(alloc: Global, words: &[&str]) -> Result<Vec<String>, Fail> {
+pub(crate) fn words_of(alloc: Global, words: &[&str]) -> Result<Vec<String>, Fail> {
     let mut list = Vec::new(alloc);
     for word in words {
         list.push(String::from_str(alloc, word)?)?;
@@ -36,7 +36,7 @@ fn first_marks(bank: Vec<Held<MemoryPages>>) -> u32 {
 }
 
 /// The run of these words over a document. The calls of source and sink with these numbers fail.
-pub fn run_of(
+pub(crate) fn run_of(
     alloc: Global,
     words: &[&str],
     document: &[u8],
@@ -94,7 +94,7 @@ pub const ANSWER: Row = Row {
 };
 
 /// The text with other texts in place of some of its own.
-pub fn changed(alloc: Global, text: &str, changes: &[(&str, &str)]) -> Result<String, Fail> {
+pub(crate) fn changed(alloc: Global, text: &str, changes: &[(&str, &str)]) -> Result<String, Fail> {
     let mut changed = String::from_str(alloc, text)?;
     for (old, new) in changes {
         let (front, rest) = changed.split_once(old).ok_or("a text to replace")?;

@@ -48,7 +48,7 @@ pub struct Opening {
 }
 
 /// The keys of the issuer.
-pub fn issuer_keys() -> HostKeys {
+pub(crate) fn issuer_keys() -> HostKeys {
     HostKeys {
         ac: key(0x0123_4567_89ab_cdef_fedc_ba98_7654_3210),
         mac: key(0x2345_6789_abcd_ef01_dcba_9876_5432_10fe),
@@ -62,7 +62,7 @@ fn key(number: u128) -> Key16 {
 }
 
 /// The bytes of a hexadecimal text.
-pub fn bytes_of(alloc: Global, text: &str) -> Result<Vec<u8>, Fail> {
+pub(crate) fn bytes_of(alloc: Global, text: &str) -> Result<Vec<u8>, Fail> {
     Ok(hex::decode(alloc, text).ok().ok_or("hexadecimal digits")?)
 }
 
