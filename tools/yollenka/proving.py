@@ -149,7 +149,8 @@ class Prover:
     def jobs_for(self, crate, ready):
         """How many processors a crate's proof gets where so many wait, itself among them: 0 where one or memory is wanting.
 
-        It gets what no other crate waits for, as far as memory is free; one crate may always run.
+        It gets what no other crate waits for, as far as memory is free, and a second one where those that wait for it take longer
+        than an even share of all that is left; one crate may always run.
         """
         idle = len(os.sched_getaffinity(0)) - sum(self.jobs[one] for one in self.running.values())
         still = sum(max(0, self.needed(one) - taken_memory(self.sessions.get(one, -1))) for one in self.running.values())
@@ -157,7 +158,13 @@ class Prover:
         needs = self.plan.memory(crate)
         if self.running and (idle < 1 or room < needs):
             return 0
-        return max(1, min(MOST_JOBS, idle // ready, 1 + int((room / needs - 1) / FURTHER)))
+        wished = max(idle // ready, min(idle, 2) if self.is_last_to_end(crate) else 1)
+        return max(1, min(MOST_JOBS, wished, 1 + int((room / needs - 1) / FURTHER)))
+
+    def is_last_to_end(self, crate):
+        """Whether a crate and the row of those that wait for it take longer than an even share of all that is left."""
+        left = sum(self.plan.lines[one] for one in [*self.todo, *self.running.values()])
+        return self.plan.row[crate] * len(os.sched_getaffinity(0)) > left
 
     def prove(self, crate):
         """Proves a crate in a room of its own; gives the status and what the toolchain wrote."""
