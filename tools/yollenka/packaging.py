@@ -15,15 +15,13 @@ from typing import NamedTuple
 from yollenka import builds
 from yollenka.faults import Fault
 from yollenka.pages import completions, man_pages
-from yollenka.programs import ROOT
+from yollenka.programs import PROGRAMS, ROOT
 from yollenka.version import version
 
 NAME = "yollenka"
-# Those that the launchers and `lab` run; one of which there is no crate is left out.
-PROGRAMS = [name for name in ("emvrun", "explain", "card_at_reader", "terminal_at_reader", "card_check") if builds.is_known(name)]
 LAUNCHERS = ("emvrun", "explain", "lab")
-# Files that git has below these are packed; the pages on the code are for who has a clone.
-PACKED = ("emvrun", "explain", "lab", "README.md", "CHANGELOG.md", "docs", ":!docs/inside", "examples", "suite", "tools/yollenka")
+# Files that git has below these are packed: all pages, so that each link of one leads somewhere.
+PACKED = ("emvrun", "explain", "lab", "README.md", "CHANGELOG.md", "docs", "examples", "suite", "tools/yollenka")
 HOME = "usr/lib/yollenka"
 CONTROL = """\
 Package: {name}

@@ -14,11 +14,13 @@ from yollenka.builds import say, silent
 
 ROOT = Path(seals.ROOT)
 TOOL = "rt"
+# The programs that the launchers and `lab` run: the gate builds each, and the package has each.
+PROGRAMS = ("emvrun", "explain", "card_at_reader", "terminal_at_reader", "card_check")
 # How long that takes, as measured on four processors.
 TRIAL_TIME = "one to two minutes"
 
 libraries, crates_of, is_fresh = seals.libraries, seals.crates_of, seals.is_fresh
-__all__ = ["ROOT", "TOOL", "Builder", "built", "crates_of", "fresh", "is_fresh", "libraries", "proved", "say", "silent", "trial"]
+__all__ = ["PROGRAMS", "ROOT", "TOOL", "Builder", "built", "crates_of", "fresh", "is_fresh", "libraries", "proved", "say", "silent", "trial"]
 
 
 def sources(name):
@@ -124,12 +126,15 @@ class Builder:
 
 
 def main(words):
-    """Proves and builds these crates' programs where they aren't yet."""
+    """Proves and builds these crates' programs where they aren't yet; without a word those of the package."""
     parser = argparse.ArgumentParser(prog="programs.py", description=main.__doc__)
-    parser.add_argument("crate", nargs="+")
-    for crate in parser.parse_args(words).crate:
-        if (ROOT / "crates" / crate).is_dir():
-            built(crate)
+    parser.add_argument("crate", nargs="*")
+    wanted = parser.parse_args(words).crate or PROGRAMS
+    for crate in wanted:
+        if not builds.is_known(crate):
+            parser.error(f"there is no program {crate}")
+    for crate in wanted:
+        built(crate)
 
 
 if __name__ == "__main__":
