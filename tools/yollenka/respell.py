@@ -1,13 +1,10 @@
-"""respell.py SCENARIO REPORT: a report in which the messages of the scenario's lanes are spelled in their dialects.
+"""A report in which the messages of the scenario's lanes are spelled in their dialects.
 
 Written from docs/proof/formats.md, section 8, and docs/use/report.md, section 7, and not from the program: a message to the issuer
 and its reply as one object each ("tlv") and in the style of ISO 8583:1987 ("iso"), each read in one spelling and written
-in the other. REPORT may have each lane's messages in either: the type of the first byte tells them apart.
+in the other. The report may have each lane's messages in either: the type of the first byte tells them apart.
 """
 import re
-import sys
-import tomllib
-from pathlib import Path
 
 # What stands in the field 55 of a call, and what its object has, in their order; [..] may be absent.
 SHARED = ["9f03", "9f1a", "95", "9a", "9f37", "82", "9f36", "9f26", "9f10"]
@@ -221,10 +218,3 @@ def respelled(report, dialects):
 def dialects_of(scenario):
     """The dialect of each lane."""
     return [lane.get("dialect", "tlv") for lane in scenario["lane"]]
-
-
-if __name__ == "__main__":
-    if len(sys.argv) != 3:
-        sys.exit(__doc__)
-    wanted = dialects_of(tomllib.loads(Path(sys.argv[1]).read_text()))
-    print(*respelled(Path(sys.argv[2]).read_text(), wanted)[0], sep="\n")
