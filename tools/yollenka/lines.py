@@ -77,7 +77,7 @@ def read(path):
 
 def card_document(scenario):
     """The document of a scenario's cards."""
-    return document({"issuer": scenario["issuer"], "card": scenario["card"]})
+    return document({key: scenario[key] for key in ("issuer", "card") if key in scenario})
 
 
 def without(table, keys):

@@ -47,7 +47,7 @@ class Image:
         cards = self.table.get("card")
         if not isinstance(cards, list) or not all(isinstance(card, dict) for card in cards) or not cards:
             raise Fault(f"{path}: it has neither [[card]] nor [card], the card's image")
-        self.cards = {card.get("name"): card for card in cards}
+        self.cards = {str(card.get("name")): card for card in cards}
 
     def known(self, name):
         """This card's name, where it is in the image; without a name the first card with applications."""

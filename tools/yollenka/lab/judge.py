@@ -18,6 +18,7 @@ A verdict on each purchase of each log: `ok`, or `not ok` with what should have 
 LOG is a trace, a report, or what a logger or a card client wrote; docs/use/lab.md lists the forms. What isn't known of the
 terminal may be left out: it is taken from the log, and the verdict is inconclusive where it would depend on a guess."""
 LANE_KEYS = ("kind", "country", "caps", "id")
+NAMELESS = "name is missing"
 
 
 def arguments(parser):
@@ -46,10 +47,10 @@ def place_text(place):
 
 
 def check(path, lane):
-    """Looks at a lane's keys by the schema; what lacks is no fault."""
+    """Looks at a lane's keys by the schema; what lacks is no fault, but for the name of a row."""
     root = read_schema()
     for place, text in faults(root["$defs"]["lane"], lane, (), root):
-        if not text.endswith(" is missing") and not (place == ("aid",) and lane.get("aid") == []):
+        if (text == NAMELESS or not text.endswith(" is missing")) and not (place == ("aid",) and lane.get("aid") == []):
             raise Fault(f"{path}: {place_text(place) or 'the lane'}: {text}")
 
 
