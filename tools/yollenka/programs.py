@@ -117,6 +117,7 @@ class Builder:
         """The program to run: the proved one, or a trial build, made where there is none. And whether it is proved."""
         found = builds.kept(self.name)
         if found is None:
+            self.tool()
             self.tell(f"a trial build is made ({TRIAL_TIME}), which is not proved; it is kept until a source changes")
             self.make_trial()
             found = builds.kept(self.name)
