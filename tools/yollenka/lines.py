@@ -86,9 +86,7 @@ def without(table, keys):
 
 def terminal_document(scenario, lane, purchase):
     """The document of a lane's terminal with one of its purchases, counted from 0 and from 1."""
-    terminal = scenario["lane"][lane]
+    terminal, issuer = scenario["lane"][lane], scenario.get("issuer")
     one = without(terminal["purchase"][purchase - 1], NOT_OF_A_DIALOGUE)
-    return document({
-        "pin_key": scenario["issuer"]["pin_key"],
-        "lane": {**without(terminal, NOT_OF_A_TERMINAL), "purchase": [one]},
-    })
+    key = {"pin_key": issuer["pin_key"]} if isinstance(issuer, dict) and "pin_key" in issuer else {}
+    return document({**key, "lane": {**without(terminal, NOT_OF_A_TERMINAL), "purchase": [one]}})
