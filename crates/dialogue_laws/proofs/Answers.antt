@@ -31,7 +31,8 @@ pub record Answers (image : ImageData) (now : Now) (command : List ℕ) (reply :
   pub phase : phase_at image (goes image now command) ≡ next
   pub kept : (goes image now command).kept ≡ now.kept ++ reply.new
 
-is_reply : (image : ImageData) (now : Now) (command : List ℕ) (c : CommandData) (phase : Phase) → command_of command ≡ Some c → phase_at image now ≡ phase
+-- what it decides and answers
+pub is_reply : (image : ImageData) (now : Now) (command : List ℕ) (c : CommandData) (phase : Phase) → command_of command ≡ Some c → phase_at image now ≡ phase
     → card_reply image now.kept now.session command ≡ instruction_answer image (state_at image now) phase c
 unfolding card_reply answer_in_phase
 is_reply image now command c phase known here = rw (known, here) refl

@@ -1,6 +1,8 @@
 mod Agreed
 pub mod Answers
 mod Asking
+mod Authenticating
+mod Carrying
 pub mod Choices
 mod Codes
 mod Courses
@@ -18,6 +20,7 @@ mod Generating
 mod Giving
 mod Hearing
 mod Hosting
+mod InRequest
 mod Initiating
 mod Judging
 mod Keeping
@@ -30,6 +33,7 @@ mod MadeScripts
 mod Names
 pub mod OptionsRead
 mod Order
+mod OrderedData
 pub mod Ordering
 mod OtherKinds
 mod Owned

@@ -72,7 +72,8 @@ any_stay image (Some script) = λ k d within. λ at kept. tt
 pub any_runs : (image : ImageData) (now : Now) (template : List ℕ) → Runs image (λ at result. ⊤) now (template_ran template)
 any_runs image now template = script_runs {image = image} {Keeps = λ at. ⊤} (script_of template) now (any_stay image (script_of template)) tt
 
-abbrev authenticating : List ℕ → CommandData
+-- EXTERNAL AUTHENTICATE with these data
+abbrev pub authenticating : List ℕ → CommandData
 authenticating value = record { class = 0; ins = 0x82; p1 = 0; p2 = 0; body = value; expects = None }
 
 alone_for : (app : ℕ) (first : First) (value : List ℕ) (a : AppData) (s : AppState) → (authenticate_for app first value a s).body ≡ []

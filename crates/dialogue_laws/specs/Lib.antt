@@ -2,6 +2,7 @@ pub mod Agreeing
 pub mod Cards
 pub mod StepAtCard
 pub mod Decisions
+pub mod IssuerAtCard
 pub mod ListCourse
 pub mod Shadows
 pub mod UncutPurchase

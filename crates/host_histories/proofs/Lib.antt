@@ -1,4 +1,3 @@
 mod AddUp
 pub mod Apart
 mod Once
-mod Responses

@@ -1,3 +1,2 @@
 pub mod Apart
 pub mod BookedOnce
-pub mod Responses

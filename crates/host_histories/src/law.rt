@@ -1,7 +1,6 @@
 //! Laws over every list of messages.
 ghost use Rattle.host_histories.specs.Apart.{StandApart};
 ghost use Rattle.host_histories.specs.BookedOnce.{BookedOnce, BalancesAddUp};
-ghost use Rattle.host_histories.specs.Responses.{ResponsesAreRight};
 
 /// Whatever messages a host gets, in whatever order and however often: at most one of them books a
 /// transaction, and it is a presentment of it, whose amount the transaction takes from then on. Each other
@@ -22,12 +21,4 @@ pub fn balances_add_up()
 /// that can't be read is answered like this too, and changes nothing.
 pub fn accounts_stand_apart()
     ensures { StandApart }
-{}
-
-/// And whatever is kept, a new request of an account is answered with issuer authentication data exactly where
-/// its cryptogram is the card's, and the card finds them right, by whichever method they are made. Their status
-/// bytes, where they have some, approve and reset the totals exactly with code 00, and ask what the account's
-/// status asks with every code.
-pub fn responses_are_right()
-    ensures { ResponsesAreRight }
 {}

@@ -4,9 +4,7 @@
 
 pub mod law;
 
-pub use law::{
-    accounts_stand_apart, balances_add_up, responses_are_right, transactions_are_booked_once,
-};
+pub use law::{accounts_stand_apart, balances_add_up, transactions_are_booked_once};
 
 #[cfg(test)]
 mod tests;

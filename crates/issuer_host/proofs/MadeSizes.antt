@@ -55,7 +55,8 @@ unfolding numeric
 length-numeric zero n = refl
 length-numeric (suc count) n = length-append (numeric count (n / 100)) (two_digits (n % 100) ∷ []) ∙ rw (length-numeric count (n / 100)) (omega arith)
 
-data_size : (keys : ScriptKeys) (word : Word) → length (script_command_data keys word) ≡ data_length word
+-- the data of a script command, its code and the code as it is sent
+pub data_size : (keys : ScriptKeys) (word : Word) → length (script_command_data keys word) ≡ data_length word
 data_size keys Block = refl
 data_size keys Unblock = refl
 data_size keys CardBlock = refl
@@ -64,11 +65,11 @@ data_size keys (Pin digits) = length-tdes keys.enc (block_of 2 digits)
 data_size keys (Count limit) = refl
 data_size keys (Amount limit) = length-numeric 6 limit
 
-length-script_mac : (session header : List ℕ) (counter : ℕ) (cryptogram payload : List ℕ) → length (script_mac_of session header counter cryptogram payload) ≡ 8
+pub length-script_mac : (session header : List ℕ) (counter : ℕ) (cryptogram payload : List ℕ) → length (script_mac_of session header counter cryptogram payload) ≡ 8
 unfolding script_mac_of
 length-script_mac session header counter cryptogram payload = length-mac session _
 
-code_size : (bad : Bool) (mac : List ℕ) → length mac ≡ 8 → length (mac_bytes bad mac) ≡ 8
+pub code_size : (bad : Bool) (mac : List ℕ) → length mac ≡ 8 → length (mac_bytes bad mac) ≡ 8
 code_size true mac eight = length-xor_bytes mac (0 ∷ 0 ∷ 0 ∷ 0 ∷ 0 ∷ 0 ∷ 0 ∷ 0xFF ∷ []) eight ∙ eight
 code_size false mac eight = eight
 

@@ -1,14 +1,11 @@
--- The issuer authentication data that the host makes: how many bytes they are, and that they answer the request's
--- cryptogram.
-use Rattle.std.proofs.Common.{◌≡◌, ℕ, Bool, true, false, ◌&&◌, IsTrue, ◌%◌, ◌<◌, ◌≤◌, nat_lt, List, [], ◌++◌, length, take, drop, refl, arith, length-append}
+-- How many bytes the issuer authentication data are that the host makes.
+use Rattle.std.proofs.Common.{◌≡◌, ℕ, Bool, true, false, ◌&&◌, IsTrue, ◌%◌, ◌<◌, ◌≤◌, nat_lt, List, [], length, refl, arith, length-append}
 use Rattle.std.specs.Prelude.{◌==◌}
 use Rattle.std.proofs.lemmas.Bool.{ltb-true}
-use Rattle.std.proofs.lemmas.List.{take_at, drop_at, take_all, drop_all}
-use Rattle.std.proofs.lemmas.Slice.Eq.{bytes_eq-Decides}
 use Rattle.app_cryptogram.specs.Cryptograms.{arpc_of, arpc_two_of}
 use Rattle.issuer_host.specs.Account.{is_status}
 use Rattle.issuer_host.specs.Code.{code_bytes}
-use Rattle.issuer_host.specs.Response.{status_for, response_by, is_right_response}
+use Rattle.issuer_host.specs.Response.{status_for, response_by}
 use Rattle.issuer_host.specs.declared.account.Method.{Method}
 use Rattle.issuer_host.specs.declared.account.Method.TheVariants.{One, Two}
 use Rattle.issuer_host.specs.declared.code.Code.{Code}
@@ -23,7 +20,7 @@ two_bytes NoFunds = refl
 two_bytes Expired = refl
 two_bytes WrongPin = refl
 
-four_bytes : (status : ℕ) (code : Code) → length (status_for status code) ≡ 4
+pub four_bytes : (status : ℕ) (code : Code) → length (status_for status code) ≡ 4
 four_bytes status Approved = refl
 four_bytes status Declined = refl
 four_bytes status UnknownAccount = refl
@@ -67,21 +64,3 @@ response_least method status session arqc code = omega (arith, response_size met
 
 pub response_most : (method : Method) (status : ℕ) (session arqc : List ℕ) (code : Code) → length (response_by method status session arqc code) ≤ 16
 response_most method status session arqc code = omega (arith, response_size method status session arqc code, at_most method)
-
-right_one : (session arqc front behind : List ℕ) → length front ≡ 8 → length (front ++ behind) ≡ 10 → front ≡ arpc_of session arqc behind → is_right_response session arqc (front ++ behind) ≡ true
-right_one session arqc front behind eight ten is =
-    rw (ten, take_at front behind 8 eight, drop_at front behind 8 eight) ((bytes_eq-Decides front (arpc_of session arqc behind)).1 is)
-
-right_two : (session arqc front status : List ℕ) → length front ≡ 4 → length status ≡ 4 → length (front ++ status) ≡ 8 → front ≡ arpc_two_of session arqc status [] → is_right_response session arqc (front ++ status) ≡ true
-right_two session arqc front status four four_more eight is =
-    let whole : take 4 status ≡ status = take_all 4 status (omega (arith, four_more)) in
-    let none : drop 8 (front ++ status) ≡ [] = drop_all 8 (front ++ status) (omega (arith, eight)) in
-    rw (eight, take_at front status 4 four, drop_at front status 4 four, whole, none) ((bytes_eq-Decides front (arpc_two_of session arqc status [])).1 is)
-
--- they answer the request's cryptogram
-pub response_is_right : (method : Method) (status : ℕ) (session arqc : List ℕ) (code : Code) → is_right_response session arqc (response_by method status session arqc code) ≡ true
-unfolding size_of
-response_is_right One status session arqc code =
-    right_one session arqc (arpc_of session arqc (code_bytes code)) (code_bytes code) (length-arpc session arqc (code_bytes code)) (response_size One status session arqc code) refl
-response_is_right Two status session arqc code =
-    right_two session arqc (arpc_two_of session arqc (status_for status code) []) (status_for status code) (length-arpc_two session arqc (status_for status code) []) (four_bytes status code) (response_size Two status session arqc code) refl

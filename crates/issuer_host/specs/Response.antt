@@ -1,6 +1,5 @@
 -- The issuer authentication data (91) of a reply (EMV 4.3 Book 2 section 8.2).
-use Rattle.std.specs.Prelude.{ℕ, ◌+◌, ◌==◌, Bool, if◌then◌else◌, List, [], ◌∷◌, ◌++◌, length, take, drop}
-use Rattle.std.specs.Str.{bytes_eq}
+use Rattle.std.specs.Prelude.{ℕ, ◌+◌, if◌then◌else◌, List, [], ◌∷◌, ◌++◌}
 use Rattle.app_cryptogram.specs.Cryptograms.{arpc_of, arpc_two_of}
 use Rattle.issuer_host.specs.declared.account.Method.{Method}
 use Rattle.issuer_host.specs.declared.account.Method.TheVariants.{One, Two}
@@ -17,10 +16,3 @@ status_for status code = (if is_approved code then 0x80 ∷ (0x80 + status) ∷ 
 abbrev pub response_by : Method → ℕ → List ℕ → List ℕ → Code → List ℕ
 response_by One status session arqc code = arpc_of session arqc (code_bytes code) ++ code_bytes code
 response_by Two status session arqc code = arpc_two_of session arqc (status_for status code) [] ++ status_for status code
-
--- issuer authentication data that answer this request cryptogram: ten bytes are by method 1, the last two the code; any
--- other number is by method 2, four bytes the response cryptogram, four the status and the rest further bytes (own)
-abbrev pub is_right_response : List ℕ → List ℕ → List ℕ → Bool
-is_right_response session arqc response =
-    if length response == 10 then bytes_eq (take 8 response) (arpc_of session arqc (drop 8 response))
-    else bytes_eq (take 4 response) (arpc_two_of session arqc (take 4 (drop 4 response)) (drop 8 response))
