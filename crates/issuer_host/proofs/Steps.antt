@@ -24,10 +24,6 @@ pub kept_made : (key own : Key) (kept : KeptMessage) (amount : ℕ) (message : L
     → kept_message key kept ≡ kept_with own amount message said
 kept_made key own kept amount message said a b c d e f = λ i. record { key = a i; amount = b i; message = c i; code = d i; online = e i; reply = f i }
 
-pub on_ok : {T E : Type 0} {P : Type 0} → (r : Result T E) → P → OnOk r P
-on_ok (Ok x) p = p
-on_ok (Err e) p = tt
-
 pub on_ok_map : {T E : Type 0} {P Q : Type 0} → (r : Result T E) → (P → Q) → OnOk r P → OnOk r Q
 on_ok_map (Ok x) f p = f p
 on_ok_map (Err e) f p = tt

@@ -91,16 +91,16 @@ impl<'a> Host<'a> {
     /// Answers a message of at most 2,048 bytes, in place of what `out` holds. A message that can't be read
     /// is answered 05 and not kept. A message of the kind and transaction of one that was kept gets the kept
     /// reply again where its bytes are the same, which takes no memory, and else 05. After `AllocError` the
-    /// host is as before.
+    /// host is as before, and `out` holds the reply all the same: it is written before memory is asked for.
     pub fn answer(&mut self, message: &[u8], out: &mut Message) -> Result<(), AllocError>
         requires { length message.now ≤ 2048 }
-        // The reply is that of the whole list of messages so far, whatever list it was.
-        ensures reply { OnOk result ((messages : List (List ℕ)) → HostStands self.old messages
-            → out.new.items ≡ host_reply self.old.keys self.old.accounts messages message.now) }
+        // Whatever the result, the reply is that of the whole list of messages so far, whatever list it was.
+        ensures reply { (messages : List (List ℕ)) → HostStands self.old messages
+            → out.new.items ≡ host_reply self.old.keys self.old.accounts messages message.now }
         ensures stands { OnOk result ((messages : List (List ℕ)) → HostStands self.old messages
             → HostStands self.new (messages ++ message.now ∷ [])) }
         // It is read, and its scripts are spelled as items are written, with no byte 00 between them.
-        ensures written { OnOk result ((messages : List (List ℕ)) → HostStands self.old messages → IsReply out.new.items) }
+        ensures written { (messages : List (List ℕ)) → HostStands self.old messages → IsReply out.new.items }
         ensures keys { self.new.keys ≡ self.old.keys }
         ensures accounts { self.new.accounts ≡ self.old.accounts }
         ensures err { OnErr result (self.new ≡ self.old) }
@@ -146,7 +146,7 @@ impl<'a> Host<'a> {
         out: &mut Message,
     ) -> Result<(), AllocError>
         requires { AreDigitBytes fields.now.paid.t9f02 }
-        ensures reply { OnOk result (out.new.items ≡ reply_to_message self.old.keys self.old.accounts self.old.books message.now (Ok (Request fields.now))) }
+        ensures reply { out.new.items ≡ reply_to_message self.old.keys self.old.accounts self.old.books message.now (Ok (Request fields.now)) }
         ensures books { OnOk result (self.new.books ≡ kept_in self.old.keys self.old.accounts self.old.books message.now (Ok (Request fields.now))) }
         ensures keys { self.new.keys ≡ self.old.keys }
         ensures accounts { self.new.accounts ≡ self.old.accounts }
@@ -190,7 +190,7 @@ impl<'a> Host<'a> {
         out: &mut Message,
     ) -> Result<(), AllocError>
         requires { AreDigitBytes fields.now.paid.t9f02 }
-        ensures reply { OnOk result (out.new.items ≡ reply_to_message self.old.keys self.old.accounts self.old.books message.now (Ok (Present fields.now))) }
+        ensures reply { out.new.items ≡ reply_to_message self.old.keys self.old.accounts self.old.books message.now (Ok (Present fields.now)) }
         ensures books { OnOk result (self.new.books ≡ kept_in self.old.keys self.old.accounts self.old.books message.now (Ok (Present fields.now))) }
         ensures keys { self.new.keys ≡ self.old.keys }
         ensures accounts { self.new.accounts ≡ self.old.accounts }
@@ -229,7 +229,7 @@ impl<'a> Host<'a> {
         out: &mut Message,
     ) -> Result<(), AllocError>
         requires { AreDigitBytes fields.now.t9f02 }
-        ensures reply { OnOk result (out.new.items ≡ reply_to_message self.old.keys self.old.accounts self.old.books message.now (Ok (Reverse fields.now))) }
+        ensures reply { out.new.items ≡ reply_to_message self.old.keys self.old.accounts self.old.books message.now (Ok (Reverse fields.now)) }
         ensures books { OnOk result (self.new.books ≡ kept_in self.old.keys self.old.accounts self.old.books message.now (Ok (Reverse fields.now))) }
         ensures keys { self.new.keys ≡ self.old.keys }
         ensures accounts { self.new.accounts ≡ self.old.accounts }

@@ -17,9 +17,9 @@ pub returns-in-Err-clause-stands : goal.returns-in-Err-clause-stands
 returns-in-Err-clause-stands c = λ messages stands. stands_after c.args.self.now c.args.self.now messages c.args.message.now _ c.in-Err.ensures.value stands refl refl refl
 
 pub returns-in-Request-clause-reply : goal.returns-in-Request-clause-reply
-returns-in-Request-clause-reply c =
+returns-in-Request-clause-reply c = λ messages stands.
     let is : message_of c.args.message.now ≡ Ok c.in-Ok.incoming = c.in-Ok.ensures.value in
-    on_ok_map c.answer_request.result (λ said. λ (messages : List (List ℕ)) (stands : HostStands c.args.self.now messages). said ∙ replied c.args.self.now messages c.args.message.now _ (is ∙ ap (λ (x : Incoming). Ok x) c.in-Request.is) stands) c.answer_request.ensures.reply
+    c.answer_request.ensures.reply ∙ replied c.args.self.now messages c.args.message.now _ (is ∙ ap (λ (x : Incoming). Ok x) c.in-Request.is) stands
 
 pub returns-in-Request-clause-stands : goal.returns-in-Request-clause-stands
 returns-in-Request-clause-stands c =
@@ -31,9 +31,9 @@ pub answer_request-requires : goal.answer_request-requires
 answer_request-requires c = rw c.in-Request.is at c.in-Ok.ensures.amount
 
 pub returns-in-Present-clause-reply : goal.returns-in-Present-clause-reply
-returns-in-Present-clause-reply c =
+returns-in-Present-clause-reply c = λ messages stands.
     let is : message_of c.args.message.now ≡ Ok c.in-Ok.incoming = c.in-Ok.ensures.value in
-    on_ok_map c.answer_presentment.result (λ said. λ (messages : List (List ℕ)) (stands : HostStands c.args.self.now messages). said ∙ replied c.args.self.now messages c.args.message.now _ (is ∙ ap (λ (x : Incoming). Ok x) c.in-Present.is) stands) c.answer_presentment.ensures.reply
+    c.answer_presentment.ensures.reply ∙ replied c.args.self.now messages c.args.message.now _ (is ∙ ap (λ (x : Incoming). Ok x) c.in-Present.is) stands
 
 pub returns-in-Present-clause-stands : goal.returns-in-Present-clause-stands
 returns-in-Present-clause-stands c =
@@ -45,9 +45,9 @@ pub answer_presentment-requires : goal.answer_presentment-requires
 answer_presentment-requires c = rw c.in-Present.is at c.in-Ok.ensures.amount
 
 pub returns-in-Reverse-clause-reply : goal.returns-in-Reverse-clause-reply
-returns-in-Reverse-clause-reply c =
+returns-in-Reverse-clause-reply c = λ messages stands.
     let is : message_of c.args.message.now ≡ Ok c.in-Ok.incoming = c.in-Ok.ensures.value in
-    on_ok_map c.answer_reversal.result (λ said. λ (messages : List (List ℕ)) (stands : HostStands c.args.self.now messages). said ∙ replied c.args.self.now messages c.args.message.now _ (is ∙ ap (λ (x : Incoming). Ok x) c.in-Reverse.is) stands) c.answer_reversal.ensures.reply
+    c.answer_reversal.ensures.reply ∙ replied c.args.self.now messages c.args.message.now _ (is ∙ ap (λ (x : Incoming). Ok x) c.in-Reverse.is) stands
 
 pub returns-in-Reverse-clause-stands : goal.returns-in-Reverse-clause-stands
 returns-in-Reverse-clause-stands c =
@@ -77,22 +77,19 @@ pub returns-in-Err-clause-written : goal.returns-in-Err-clause-written
 returns-in-Err-clause-written c = λ messages stands. subst IsReply (sym c.plain.ensures.bytes) (plain_written Declined)
 
 pub returns-in-Request-clause-written : goal.returns-in-Request-clause-written
-returns-in-Request-clause-written c =
+returns-in-Request-clause-written c = λ messages stands.
     let is : message_of c.args.message.now ≡ Ok c.in-Ok.incoming = c.in-Ok.ensures.value in
-    on_ok_map c.answer_request.result (λ said. λ (messages : List (List ℕ)) (stands : HostStands c.args.self.now messages).
-    subst IsReply (sym (said ∙ replied c.args.self.now messages c.args.message.now _ (is ∙ ap (λ (x : Incoming). Ok x) c.in-Request.is) stands))
-    (replies_written c.args.self.now.keys c.args.self.now.accounts messages c.args.message.now c.answer_request.ensures.valid)) c.answer_request.ensures.reply
+    subst IsReply (sym (c.answer_request.ensures.reply ∙ replied c.args.self.now messages c.args.message.now _ (is ∙ ap (λ (x : Incoming). Ok x) c.in-Request.is) stands))
+    (replies_written c.args.self.now.keys c.args.self.now.accounts messages c.args.message.now c.answer_request.ensures.valid)
 
 pub returns-in-Present-clause-written : goal.returns-in-Present-clause-written
-returns-in-Present-clause-written c =
+returns-in-Present-clause-written c = λ messages stands.
     let is : message_of c.args.message.now ≡ Ok c.in-Ok.incoming = c.in-Ok.ensures.value in
-    on_ok_map c.answer_presentment.result (λ said. λ (messages : List (List ℕ)) (stands : HostStands c.args.self.now messages).
-    subst IsReply (sym (said ∙ replied c.args.self.now messages c.args.message.now _ (is ∙ ap (λ (x : Incoming). Ok x) c.in-Present.is) stands))
-    (replies_written c.args.self.now.keys c.args.self.now.accounts messages c.args.message.now c.answer_presentment.ensures.valid)) c.answer_presentment.ensures.reply
+    subst IsReply (sym (c.answer_presentment.ensures.reply ∙ replied c.args.self.now messages c.args.message.now _ (is ∙ ap (λ (x : Incoming). Ok x) c.in-Present.is) stands))
+    (replies_written c.args.self.now.keys c.args.self.now.accounts messages c.args.message.now c.answer_presentment.ensures.valid)
 
 pub returns-in-Reverse-clause-written : goal.returns-in-Reverse-clause-written
-returns-in-Reverse-clause-written c =
+returns-in-Reverse-clause-written c = λ messages stands.
     let is : message_of c.args.message.now ≡ Ok c.in-Ok.incoming = c.in-Ok.ensures.value in
-    on_ok_map c.answer_reversal.result (λ said. λ (messages : List (List ℕ)) (stands : HostStands c.args.self.now messages).
-    subst IsReply (sym (said ∙ replied c.args.self.now messages c.args.message.now _ (is ∙ ap (λ (x : Incoming). Ok x) c.in-Reverse.is) stands))
-    (replies_written c.args.self.now.keys c.args.self.now.accounts messages c.args.message.now c.answer_reversal.ensures.valid)) c.answer_reversal.ensures.reply
+    subst IsReply (sym (c.answer_reversal.ensures.reply ∙ replied c.args.self.now messages c.args.message.now _ (is ∙ ap (λ (x : Incoming). Ok x) c.in-Reverse.is) stands))
+    (replies_written c.args.self.now.keys c.args.self.now.accounts messages c.args.message.now c.answer_reversal.ensures.valid)

@@ -14,7 +14,7 @@ use Rattle.issuer_host.specs.Reply.{present_key, present_reply, new_present, kep
 use Rattle.issuer_host.proofs.Approved.{present_open, some_where}
 use Rattle.issuer_host.proofs.Hosting.{known_balance}
 use Rattle.issuer_host.proofs.Places.{has_pan}
-use Rattle.issuer_host.proofs.Steps.{got_some, got_none, kept_made, on_ok, on_ok_map, holds_after, holds_others, on_err}
+use Rattle.issuer_host.proofs.Steps.{got_some, got_none, kept_made, on_ok_map, holds_after, holds_others, on_err}
 use Rattle.issuer_host.proofs.host.Host.answer_presentment.Goals as goal
 
 pub returns-in-Some-clause-reply : goal.returns-in-Some-clause-reply
@@ -78,8 +78,19 @@ returns-clause-reply c =
     let there : option_map (λ k. kept_message c.present_key-key.result k.now) c.presentment.result ≡ kept_at (present_key f) s.books.presentments =
     c.presentment.ensures ∙ ap (λ k. kept_at k i.records.books.presentments) c.present_key-key.ensures ∙ ap (λ (h : HostData). kept_at (present_key f) h.books.presentments) c.self.view_is in
     let none_is = got_none c.present_key-key.result c.presentment.result (kept_at (present_key f) s.books.presentments) there c.in_default.is in
-    on_ok c.keep_presentment.result (c.reply_to_presentment-answered.ensures.bytes ∙ ap (λ (h : HostData). said_bytes (present_reply h.keys (account_with_pan f.named.pan h.accounts) h.books f)) c.self.view_is
-    ∙ ap (λ r. again_or r c.args.message.now (said_bytes (present_reply s.keys (account_with_pan f.named.pan s.accounts) s.books f))) (sym none_is))
+    c.reply_to_presentment-answered.ensures.bytes ∙ ap (λ (h : HostData). said_bytes (present_reply h.keys (account_with_pan f.named.pan h.accounts) h.books f)) c.self.view_is
+    ∙ ap (λ r. again_or r c.args.message.now (said_bytes (present_reply s.keys (account_with_pan f.named.pan s.accounts) s.books f))) (sym none_is)
+
+pub returns-in_err-kept-clause-reply : goal.returns-in_err-kept-clause-reply
+returns-in_err-kept-clause-reply c =
+    let s = c.args.self.now in
+    let i = c.self.inside in
+    let f = c.args.fields.now in
+    let there : option_map (λ k. kept_message c.present_key-key.result k.now) c.presentment.result ≡ kept_at (present_key f) s.books.presentments =
+    c.presentment.ensures ∙ ap (λ k. kept_at k i.records.books.presentments) c.present_key-key.ensures ∙ ap (λ (h : HostData). kept_at (present_key f) h.books.presentments) c.self.view_is in
+    let none_is = got_none c.present_key-key.result c.presentment.result (kept_at (present_key f) s.books.presentments) there c.in_default.is in
+    c.reply_to_presentment-answered.ensures.bytes ∙ ap (λ (h : HostData). said_bytes (present_reply h.keys (account_with_pan f.named.pan h.accounts) h.books f)) c.self.view_is
+    ∙ ap (λ r. again_or r c.args.message.now (said_bytes (present_reply s.keys (account_with_pan f.named.pan s.accounts) s.books f))) (sym none_is)
 
 pub returns-clause-books : goal.returns-clause-books
 returns-clause-books c =

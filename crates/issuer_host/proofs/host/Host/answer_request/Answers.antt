@@ -56,6 +56,28 @@ returns-then-answered-clause-reply c =
     c.reply_to_request-answered.ensures.bytes ∙ ap (λ (h : HostData). said_bytes (request_reply h.keys (account_with_pan f.named.pan h.accounts) h.books f)) c.self.view_is
     ∙ ap (λ r. again_or r c.args.message.now (said_bytes (request_reply s.keys (account_with_pan f.named.pan s.accounts) s.books f))) (sym none_is)
 
+pub returns-in_err-kept-clause-reply : goal.returns-in_err-kept-clause-reply
+returns-in_err-kept-clause-reply c =
+    let s = c.args.self.now in
+    let i = c.self.inside in
+    let f = c.args.fields.now in
+    let there : option_map (λ k. kept_message c.request_key-key.result k.now) c.request.result ≡ kept_at (request_key f) s.books.requests =
+    c.request.ensures ∙ ap (λ k. kept_at k i.records.books.requests) c.request_key-key.ensures ∙ ap (λ (h : HostData). kept_at (request_key f) h.books.requests) c.self.view_is in
+    let none_is = got_none c.request_key-key.result c.request.result (kept_at (request_key f) s.books.requests) there c.in_default.is in
+    c.reply_to_request-answered.ensures.bytes ∙ ap (λ (h : HostData). said_bytes (request_reply h.keys (account_with_pan f.named.pan h.accounts) h.books f)) c.self.view_is
+    ∙ ap (λ r. again_or r c.args.message.now (said_bytes (request_reply s.keys (account_with_pan f.named.pan s.accounts) s.books f))) (sym none_is)
+
+pub returns-in_err-keep_request-clause-reply : goal.returns-in_err-keep_request-clause-reply
+returns-in_err-keep_request-clause-reply c =
+    let s = c.args.self.now in
+    let i = c.self.inside in
+    let f = c.args.fields.now in
+    let there : option_map (λ k. kept_message c.request_key-key.result k.now) c.request.result ≡ kept_at (request_key f) s.books.requests =
+    c.request.ensures ∙ ap (λ k. kept_at k i.records.books.requests) c.request_key-key.ensures ∙ ap (λ (h : HostData). kept_at (request_key f) h.books.requests) c.self.view_is in
+    let none_is = got_none c.request_key-key.result c.request.result (kept_at (request_key f) s.books.requests) there c.in_default.is in
+    c.reply_to_request-answered.ensures.bytes ∙ ap (λ (h : HostData). said_bytes (request_reply h.keys (account_with_pan f.named.pan h.accounts) h.books f)) c.self.view_is
+    ∙ ap (λ r. again_or r c.args.message.now (said_bytes (request_reply s.keys (account_with_pan f.named.pan s.accounts) s.books f))) (sym none_is)
+
 pub returns-then-answered-clause-books : goal.returns-then-answered-clause-books
 returns-then-answered-clause-books c =
     let s = c.args.self.now in

@@ -12,7 +12,7 @@ use Rattle.issuer_host.specs.Reply.{reversal_key, reversal_reply, new_reversal, 
 use Rattle.issuer_host.proofs.Approved.{reversal_open, some_where}
 use Rattle.issuer_host.proofs.Hosting.{known_balance}
 use Rattle.issuer_host.proofs.Places.{has_pan}
-use Rattle.issuer_host.proofs.Steps.{got_some, got_none, kept_made, on_ok, on_ok_map, holds_after, holds_others, on_err}
+use Rattle.issuer_host.proofs.Steps.{got_some, got_none, kept_made, on_ok_map, holds_after, holds_others, on_err}
 use Rattle.issuer_host.proofs.host.Host.answer_reversal.Goals as goal
 
 pub returns-in-Some-clause-reply : goal.returns-in-Some-clause-reply
@@ -73,8 +73,19 @@ returns-clause-reply c =
     let there : option_map (λ k. kept_message c.reversal_key-key.result k.now) c.reversal.result ≡ kept_at (reversal_key f) s.books.reversals =
     c.reversal.ensures ∙ ap (λ k. kept_at k i.records.books.reversals) c.reversal_key-key.ensures ∙ ap (λ (h : HostData). kept_at (reversal_key f) h.books.reversals) c.self.view_is in
     let none_is = got_none c.reversal_key-key.result c.reversal.result (kept_at (reversal_key f) s.books.reversals) there c.in_default.is in
-    on_ok c.keep_reversal.result (c.reply_to_reversal-answered.ensures.bytes ∙ ap (λ (h : HostData). said_bytes (reversal_reply (account_with_pan f.pan h.accounts) h.books f)) c.self.view_is
-    ∙ ap (λ r. again_or r c.args.message.now (said_bytes (reversal_reply (account_with_pan f.pan s.accounts) s.books f))) (sym none_is))
+    c.reply_to_reversal-answered.ensures.bytes ∙ ap (λ (h : HostData). said_bytes (reversal_reply (account_with_pan f.pan h.accounts) h.books f)) c.self.view_is
+    ∙ ap (λ r. again_or r c.args.message.now (said_bytes (reversal_reply (account_with_pan f.pan s.accounts) s.books f))) (sym none_is)
+
+pub returns-in_err-kept-clause-reply : goal.returns-in_err-kept-clause-reply
+returns-in_err-kept-clause-reply c =
+    let s = c.args.self.now in
+    let i = c.self.inside in
+    let f = c.args.fields.now in
+    let there : option_map (λ k. kept_message c.reversal_key-key.result k.now) c.reversal.result ≡ kept_at (reversal_key f) s.books.reversals =
+    c.reversal.ensures ∙ ap (λ k. kept_at k i.records.books.reversals) c.reversal_key-key.ensures ∙ ap (λ (h : HostData). kept_at (reversal_key f) h.books.reversals) c.self.view_is in
+    let none_is = got_none c.reversal_key-key.result c.reversal.result (kept_at (reversal_key f) s.books.reversals) there c.in_default.is in
+    c.reply_to_reversal-answered.ensures.bytes ∙ ap (λ (h : HostData). said_bytes (reversal_reply (account_with_pan f.pan h.accounts) h.books f)) c.self.view_is
+    ∙ ap (λ r. again_or r c.args.message.now (said_bytes (reversal_reply (account_with_pan f.pan s.accounts) s.books f))) (sym none_is)
 
 pub returns-clause-books : goal.returns-clause-books
 returns-clause-books c =
