@@ -1,2 +1,3 @@
+mod Apart
 pub mod Again
 pub mod Short

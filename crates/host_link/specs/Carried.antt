@@ -3,7 +3,7 @@ use Rattle.std.specs.Prelude.{◌≡◌, ℕ, Bool, true, false, List, Ok}
 use Rattle.auth_message.specs.declared.message.Incoming.{Incoming}
 use Rattle.auth_message.specs.Reply.{ReplyData}
 use Rattle.auth_message.specs.Spelling.{reply_bytes}
-use Rattle.auth_message.specs.Whole.{message_bytes, AreSpelledScripts}
+use Rattle.auth_message.specs.Whole.{message_bytes}
 use Rattle.iso_message.specs.declared.kind.CallKind.{CallKind}
 use Rattle.iso_message.specs.Reading.{call_of}
 use Rattle.iso_message.specs.Reply.{iso_reply_of}

@@ -2,7 +2,9 @@
 #![tactic(auto)]
 
 pub mod dialect;
+pub mod laws;
 mod link;
 
 pub use dialect::{Wire, write_call, write_reply};
+pub use laws::{messages_differ, replies_differ};
 pub use link::deliver;
