@@ -1,5 +1,5 @@
 //! Pages in memory whose power is cut by plan, and what their cells give then.
-ghost use Rattle.std.specs.Prelude.{◌≡◌, true};
+ghost use Rattle.std.specs.Prelude.{◌≡◌, ◌≤◌, true};
 
 use emv_ports::{Gone, Held, MemoryPages, Pages, RoughPages, Tear, TearAt};
 use std::test::Fail;
@@ -206,6 +206,61 @@ fn a_plan_for_a_commit_that_is_reached_fires_in_it(rt: HostRuntime) {
             (first, lost_at(&mut pages)) == (lost, 0),
             "at {commit} {at:?}"
         );
+    }
+}
+
+/// The number of the write that is lost in a commit of so many, or the one behind them for the release, or 0 for none.
+fn lost_of(pages: &mut MemoryPages, writes: u16) -> u16
+    requires { writes ≤ 256 }
+{
+    pages.mark();
+    for number in 1..=writes {
+        if pages.write(0, &page(Bytes::Old)).is_err() {
+            return number;
+        }
+    }
+    if pages.release().is_err() {
+        writes + 1
+    } else {
+        0
+    }
+}
+
+/// The numbers of the commit and of its write that are lost, of so many commits of so many writes each.
+fn lost_among(pages: &mut MemoryPages, commits: u16, writes: u16) -> (u16, u16)
+    requires { writes ≤ 256 }
+{
+    pages.power_up();
+    for commit in 1..=commits {
+        let number = lost_of(pages, writes);
+        if number > 0 {
+            return (commit, number);
+        }
+    }
+    (0, 0)
+}
+
+/// A planned tear's commit and its place there, the commits and the writes of each, and what is lost. The numbers stop at
+/// 255, so that the commit behind it isn't number 0.
+const LATE_PLANS: [(u8, TearAt, u16, u16, (u16, u16)); 9] = [
+    (254, TearAt::Before(1), 256, 1, (254, 1)),
+    (255, TearAt::Before(1), 256, 1, (255, 1)),
+    (255, TearAt::Within(2), 256, 1, (255, 2)),
+    (255, TearAt::Release, 256, 1, (255, 2)),
+    (0, TearAt::Release, 256, 1, (0, 0)),
+    (1, TearAt::Before(254), 1, 256, (1, 254)),
+    (1, TearAt::Before(255), 1, 256, (1, 255)),
+    (1, TearAt::Within(255), 1, 256, (1, 255)),
+    (1, TearAt::Release, 1, 256, (1, 257)),
+];
+
+#[test]
+fn a_plan_fires_at_the_greatest_numbers(rt: HostRuntime) {
+    for (commit, at, commits, writes, lost) in LATE_PLANS {
+        let mut pages = MemoryPages::blank();
+        pages.plan(Some(Tear { commit, at }));
+        assert!(rt; writes <= 256);
+        assert!(rt; lost_among(&mut pages, commits, writes) == lost, "at {commit} {at:?}");
     }
 }
 

@@ -90,6 +90,8 @@ pub fn turn_off<'i, P: Pages>(icc: &mut Icc<'i, P>)
 #[cfg(test)]
 mod cards;
 #[cfg(test)]
+mod corners;
+#[cfg(test)]
 mod directories;
 #[cfg(test)]
 mod issuers;

@@ -5,6 +5,7 @@ use crate::cards::{
     APPROVED, AUTHENTICATE, Line, OFFLINE, OPTIONS, OPTIONS_AGAIN, REQUEST, SELECT, VERIFY,
     Variant, bytes_of, halves_of, image_of,
 };
+use crate::corners::{CORNERS, ISSUER_CORNERS, lines_in};
 use crate::directories::DIRECTORIES;
 use crate::issuers::ISSUERS;
 use crate::limits::LIMITS;
@@ -308,6 +309,23 @@ fn hold_online(rt: &impl Abort, alloc: Global, sessions: &[&[Line]]) -> Result<(
     Ok(())
 }
 
+/// Holds each session, which stands in a text, with a card of its own.
+fn hold_texts(
+    rt: &impl Abort,
+    alloc: Global,
+    variant: Variant,
+    texts: &[Line],
+) -> Result<(), Fail> {
+    let image = image_of(rt, alloc, variant)?;
+    for text in texts {
+        let session = lines_in(*text);
+        assert!(rt; !session.is_full(), "a longer text: {text}");
+        let pages = Held::new(alloc, MemoryPages::blank())?;
+        hold(rt, &image, pages, session.as_slice());
+    }
+    Ok(())
+}
+
 #[test]
 fn sessions_are_those_of_independent_implementations(rt: HostRuntime) -> Result<(), Fail> {
     hold_each(&rt, rt.alloc(), &SESSIONS)
@@ -316,7 +334,7 @@ fn sessions_are_those_of_independent_implementations(rt: HostRuntime) -> Result<
 #[test]
 fn logs_issuers_and_directories_are_told(rt: HostRuntime) -> Result<(), Fail> {
     hold_each(&rt, rt.alloc(), &LOGS)?;
-    hold_online(&rt, rt.alloc(), &ISSUERS)?;
+    hold_texts(&rt, rt.alloc(), Variant::Online, &ISSUERS)?;
     hold_each(&rt, rt.alloc(), &DIRECTORIES)
 }
 
@@ -324,4 +342,10 @@ fn logs_issuers_and_directories_are_told(rt: HostRuntime) -> Result<(), Fail> {
 fn limits_and_lists_are_the_cards_own(rt: HostRuntime) -> Result<(), Fail> {
     hold_each(&rt, rt.alloc(), &LIMITS)?;
     hold_online(&rt, rt.alloc(), &ONLINE)
+}
+
+#[test]
+fn commands_that_no_terminal_sends_are_answered(rt: HostRuntime) -> Result<(), Fail> {
+    hold_texts(&rt, rt.alloc(), Variant::Online, &ISSUER_CORNERS)?;
+    hold_texts(&rt, rt.alloc(), Variant::Base, &CORNERS)
 }

@@ -3,7 +3,7 @@ use super::fixture::{Currency, Opening};
 use super::table::{APPROVED, DECLINED, History, Turn};
 
 /// Payments that are asked, captured or reversed.
-pub const PAYMENTS: [History; 9] = [
+pub const PAYMENTS: [History; 10] = [
     // Two cards of one account, whose balance covers one of the payments.
     History {
         accounts: &[Opening {
@@ -353,5 +353,55 @@ pub const PAYMENTS: [History; 9] = [
             Turn::Again(0),
         ],
         balances: &[("4761739001010010", 95_000)],
+    },
+    // Another amount than the approved request's.
+    History {
+        accounts: &[Opening {
+            pan: "4761739001010010",
+            currency: Currency::Dollar,
+            balance: 100_000,
+            blocked: false,
+            pin: Some("1234"),
+            scripts: &[],
+        }],
+        turns: &[
+            // more is booked than was held
+            Turn::Says(
+                "e16e9f1c085445524d303030315a0847617390010100105f3401015f24032612319f02060000000025009f03060000000000009f1a020840950580000000005f2a0208409a032406159c01009f37040102030482021c009f3602000b9f2608204bb40db680038e9f1006018000000301",
+                "e2108a023030910a0e66769950e1f3be3030",
+            ),
+            Turn::Says(
+                "e36c9f1c085445524d303030315a0847617390010100105f3401019f02060000000040009f03060000000000009f1a020840950580000000005f2a0208409a032406159c01009f37040102030482021c009f3602000b9f26088923c3bab9ac0bb89f10060140000003018a023030",
+                APPROVED,
+            ),
+            // and less
+            Turn::Says(
+                "e16e9f1c085445524d303030315a0847617390010100105f3401015f24032612319f02060000000025009f03060000000000009f1a020840950580000000005f2a0208409a032406159c01009f37040102030482021c009f3602000c9f26087058f21f87f87ac59f1006018000000301",
+                "e2108a023030910aa01c14305c2460543030",
+            ),
+            Turn::Says(
+                "e36c9f1c085445524d303030315a0847617390010100105f3401019f02060000000001009f03060000000000009f1a020840950580000000005f2a0208409a032406159c01009f37040102030482021c009f3602000c9f2608103f3b658d658c529f10060140000003018a023030",
+                APPROVED,
+            ),
+            // a reversal of more sets free what was held, and no more
+            Turn::Says(
+                "e16e9f1c085445524d303030315a0847617390010100105f3401015f24032612319f02060000000025009f03060000000000009f1a020840950580000000005f2a0208409a032406159c01009f37040102030482021c009f3602000d9f2608f4288776ffac624b9f1006018000000301",
+                "e2108a023030910ae8961aaee25849813030",
+            ),
+            Turn::Says(
+                "e4309f1c085445524d303030315a0847617390010100105f3401019f3602000d9f02060000000040005f2a0208408a025a33",
+                APPROVED,
+            ),
+            // and one of less sets all of it free
+            Turn::Says(
+                "e16e9f1c085445524d303030315a0847617390010100105f3401015f24032612319f02060000000025009f03060000000000009f1a020840950580000000005f2a0208409a032406159c01009f37040102030482021c009f3602000e9f26088a0958cf191a59a69f1006018000000301",
+                "e2108a023030910aae04087ec9616eb63030",
+            ),
+            Turn::Says(
+                "e4309f1c085445524d303030315a0847617390010100105f3401019f3602000e9f02060000000001005f2a0208408a025a33",
+                APPROVED,
+            ),
+        ],
+        balances: &[("4761739001010010", 95_900)],
     },
 ];
