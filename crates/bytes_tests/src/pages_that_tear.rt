@@ -260,7 +260,10 @@ fn a_plan_fires_at_the_greatest_numbers(rt: HostRuntime) {
         let mut pages = MemoryPages::blank();
         pages.plan(Some(Tear { commit, at }));
         assert!(rt; writes <= 256);
-        assert!(rt; lost_among(&mut pages, commits, writes) == lost, "at {commit} {at:?}");
+        assert!(rt;
+            lost_among(&mut pages, commits, writes) == lost,
+            "at {commit} {at:?}"
+        );
     }
 }
 
