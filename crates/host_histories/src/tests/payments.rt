@@ -354,7 +354,7 @@ pub const PAYMENTS: [History; 10] = [
         ],
         balances: &[("4761739001010010", 95_000)],
     },
-    // Another amount than the approved request's.
+    // Another amount than the approved request's; by hand, with cryptograms by OpenSSL.
     History {
         accounts: &[Opening {
             pan: "4761739001010010",

@@ -1,5 +1,5 @@
-//! What a history of a host is, and the replies without a response. All replies are those of independent
-//! implementations.
+//! What a history of a host is, and the replies without a response. Where the replies come from, docs/proof/tested.md
+//! says; none is the host's own.
 use super::fixture::Opening;
 
 /// A message to the host.
