@@ -1,8 +1,8 @@
 """Makes the quick trial build of a program from what its trial build left: the same code, optimised by the kit's compiler.
 
 It is no proof either. It is made by a process of its own at the lowest priority, one at a time, in the folder of the parts,
-which goes when the build is in its place. Where the making fails, the plain trial build stays, and where the kit isn't there
-the parts stay too.
+which goes when the build is in its place. Where the making fails, the plain trial build stays. Where the kit isn't there, or
+the machine had no time for it in hours, the parts stay too, and a later run tries again.
 """
 import ctypes
 import fcntl
@@ -17,7 +17,8 @@ sys.dont_write_bytecode = True
 sys.path.insert(0, str(Path(__file__).resolve().parents[1]))
 from yollenka import builds, seals
 
-SECONDS = 1200
+# It takes less than a minute of one processor, for which it may wait as long as others want them all.
+SECONDS = 4 * 3600
 DIE_WITH_PARENT = 1
 
 
@@ -36,11 +37,11 @@ def with_parent():
 
 
 def ran(words, work, **more):
-    """Runs a command of the making; gives what it said, or None where it is missing, fails or takes too long."""
+    """Runs a command of the making; gives what it said, or None where it is missing or fails."""
     try:
         ended = subprocess.run(words, cwd=work, env={**os.environ, "TMPDIR": str(work)}, stdin=subprocess.DEVNULL,
                                capture_output=True, timeout=SECONDS, preexec_fn=with_parent, **more)
-    except (OSError, subprocess.TimeoutExpired):
+    except OSError:
         return None
     return ended.stdout if ended.returncode == 0 else None
 
