@@ -74,6 +74,8 @@ def quicken(name):
     parts = Path(builds.parts_place(name, sources))
     held = os.open(parts, os.O_RDONLY)
     fcntl.flock(held, fcntl.LOCK_EX | fcntl.LOCK_NB)
+    # Each run begins one of these: only now is this the one that works, and may wait for the processor.
+    stay_below()
     # One after the other in this repository.
     others = os.open(parts.parents[2], os.O_RDONLY)
     fcntl.flock(others, fcntl.LOCK_EX)
@@ -95,7 +97,6 @@ def main(name):
     """Does so in peace: nobody waits for it, and nobody reads what it says."""
     for number in (signal.SIGTERM, signal.SIGINT, signal.SIGHUP):
         signal.signal(number, lambda number, _: sys.exit(128 + number))
-    stay_below()
     try:
         quicken(name)
     except (OSError, subprocess.TimeoutExpired):
