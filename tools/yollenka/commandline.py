@@ -74,18 +74,30 @@ def a_new_file(text):
     return path
 
 
+def let_output_go():
+    """What is still to be written goes nowhere."""
+    os.dup2(os.open(os.devnull, os.O_WRONLY), 1)
+
+
 def carried_out(name, run, *options):
-    """Runs a command; gives its status, also where it ends by a fault, by Ctrl-C, or since nobody reads on."""
+    """Runs a command; gives its status, also where it ends by a fault, by Ctrl-C, or since nobody reads on or nothing can be written."""
     try:
-        return run(*options)
+        status = run(*options)
+        if sys.stdout:
+            sys.stdout.flush()
+        return status
     except Fault as fault:
         print(f"{name}: {fault}", file=sys.stderr)
         return WRONG_WORDS
     except KeyboardInterrupt:
         return STOPPED
     except BrokenPipeError:
-        os.dup2(os.open(os.devnull, os.O_WRONLY), 1)
+        let_output_go()
         return 1
+    except OSError as error:
+        print(f"{name}: {f'{error.filename}: ' if error.filename else ''}{error.strerror}", file=sys.stderr)
+        let_output_go()
+        return WRONG_WORDS
 
 
 # Rows of what argparse takes that several scripts have: another program than the proved one, and a page made anew.
