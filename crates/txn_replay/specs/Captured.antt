@@ -69,12 +69,19 @@ pub record IsDelivered (keys : HostKeys) (accounts : List AccountData) (messages
   pub booked : (at : ℕ) (fields : PresentData) → slice_get messages at ≡ Some message → message_of message ≡ Ok (Present fields)
       → is_reply_approved (reply_of (host_reply keys accounts (take at messages) message)) ≡ true → IsBookedBy keys accounts messages (present_key fields) at
 
+-- these messages are among those that came, in their order, each as often as it stands here
+pub data AreAmong : List (List ℕ) → List (List ℕ) → Type 0 where
+  none_came : AreAmong [] []
+  came : {sent messages : List (List ℕ)} (message : List ℕ) → AreAmong sent messages → AreAmong (message ∷ sent) (message ∷ messages)
+  passed : {sent messages : List (List ℕ)} (message : List ℕ) → AreAmong sent messages → AreAmong sent (message ∷ messages)
+
 -- each capture of a purchase that wasn't lost was sent whole, in the order of the purchases, each copy; that of a lost purchase
--- whole or never; one may be sent again, as its drop may be lost. What was sent came to the host.
+-- whole or never; one may be sent again, as its drop may be lost. What was sent came to the host, all its copies, in this order.
 pub record AreSent (s : ScenarioData) (lines : List Line) (w : World) (l : ℕ) : Type 0 where
   pub sent : List (List ℕ)
   pub sends : Sends (caught_in (lane_at w l).ended) sent
   pub told : all_settled_told l lines ≡ map (call_in (dialect_of s l)) (flat_map (replicate s.copies) sent)
+  pub arrived : AreAmong (flat_map (replicate s.copies) sent) w.messages
   pub delivered : All (IsDelivered s.issuer s.accounts w.messages) sent
 
 -- so it is of each whole run and of each lane that keeps its captures durably

@@ -6,7 +6,7 @@ use Rattle.std.specs.List.{All, Contains, flat_map}
 use Rattle.std.proofs.lemmas.Bool.{eq-eqb, cases_eq, cases_lt, cases_order}
 use Rattle.std.proofs.lemmas.List.{map-append, append_assoc, get_or-set_same, get_or-set_other}
 use Rattle.std.proofs.lemmas.List.Concat.{flat_map-append}
-use Rattle.std.proofs.lemmas.List.Elements.{All-nil, All-cons, All-append, All-push, All-weaker, Contains-append_left, Contains-append_right, Contains-push}
+use Rattle.std.proofs.lemmas.List.Elements.{All-nil, All-cons, All-append, All-push, All-weaker, Contains-append_right, Contains-push}
 use Rattle.std.proofs.lemmas.Option.{slice_get_within}
 use Rattle.std.proofs.Math.Nat.{zero-mod}
 use Rattle.capture_store.proofs.Sendings.{store_keeps}
@@ -21,7 +21,7 @@ use Rattle.kernel.specs.Reply.{Reply}
 use Rattle.report_text.specs.declared.line.Line.{Line}
 use Rattle.report_text.specs.declared.line.Line.TheVariants.{EndLost, Done}
 use Rattle.scenario.specs.Plan.{ScenarioData}
-use Rattle.txn_replay.specs.Captured.{captured_by, caught_of, caught_in, settled_told, all_settled_told, IsDelivered, CapturesAreSent}
+use Rattle.txn_replay.specs.Captured.{AreAmong, none_came, captured_by, caught_of, caught_in, settled_told, all_settled_told, IsDelivered, CapturesAreSent}
 use Rattle.txn_replay.specs.Lines.{host_lines, settle_lines, outcome_line}
 use Rattle.txn_replay.specs.Part.{Part, Moved, loses_by, loses, lane_ended}
 use Rattle.txn_replay.specs.Payment.{Payment, dialect_of, durable_of, next_of}
@@ -33,6 +33,7 @@ use Rattle.txn_replay.specs.Storing.{part_with, lane_lost, lane_copied, copied, 
 use Rattle.txn_replay.specs.World.{Past, LaneRow, CardRow, World, new_lane, first_world, lane_at, with_store}
 use Rattle.txn_replay.specs.declared.event.Event.TheVariants.{Turn, Settle, Audit}
 use Rattle.txn_replay.proofs.CaptureLaws.ApprovedBooked.{delivered_at}
+use Rattle.txn_replay.proofs.CaptureLaws.Arriving.{Stays, nothing_came, all_came, among_both, among_more, contained}
 use Rattle.txn_replay.proofs.ExchangeLaws.ExchangeCases.{Tells, piece_tells}
 use Rattle.txn_replay.proofs.RunLaws.FairRuns.{reached_sound}
 use Rattle.txn_replay.proofs.RunLaws.LinesReached.{apart, lane_behind}
@@ -71,10 +72,6 @@ other_settle iso k lane other message reply =
 abbrev sent_copies : Bool → ℕ → List (List ℕ) → List (List ℕ)
 sent_copies iso copies sent = map (call_in iso) (flat_map (replicate copies) sent)
 
--- each message that came to the host is among those that have come later
-abbrev Stays : List (List ℕ) → List (List ℕ) → Type 0
-Stays before after = (message : List ℕ) → Contains before message → Contains after message
-
 in_copies : (n : ℕ) (message : List ℕ) → 1 ≤ n → Contains (replicate n message) message
 in_copies zero message some = absurd (omega arith)
 in_copies (suc n) message some = (0, (omega arith), refl)
@@ -89,6 +86,7 @@ module _ (p : Payment) (part : Part) where
     pub others : (k : ℕ) → k ≢ p.lane → all_settled_told k lines ≡ []
     pub stays : Stays part.messages after.messages
     pub came : All (Contains after.messages) more
+    pub arrives : (sent : List (List ℕ)) → AreAmong sent part.messages → AreAmong (sent ++ flat_map (replicate p.copies) more) after.messages
 
   -- nothing more is sent
   none_more : (after : Part) (lines : List Line) → ((k : ℕ) → all_settled_told k lines ≡ []) → Stays part.messages after.messages
@@ -102,6 +100,8 @@ module _ (p : Payment) (part : Part) where
     others = λ k other. untold k;
     stays = stays;
     came = All-nil (Contains after.messages);
+    arrives = λ sent among.
+        subst (λ (xs : List (List ℕ)). AreAmong xs after.messages) (sym (append-nil sent)) (among_more sent part.messages after.messages among stays);
   }
 
   -- lines that tell no settlement message, and what came to the host
@@ -110,9 +110,9 @@ module _ (p : Payment) (part : Part) where
     pub stays : Stays part.messages messages
 
   -- nothing came
-  none_came : (lane : LaneRow) (replies : List Reply) (card : CardRow) (lines : List Line) → ((k : ℕ) → all_settled_told k lines ≡ [])
+  nothing_more : (lane : LaneRow) (replies : List Reply) (card : CardRow) (lines : List Line) → ((k : ℕ) → all_settled_told k lines ≡ [])
       → Came lane replies card part.messages lines
-  none_came lane replies card lines untold = record { untold = untold; stays = λ message there. there }
+  nothing_more lane replies card lines untold = record { untold = untold; stays = nothing_came part.messages }
 
   later_keeps : (lane : LaneRow) → Later part.lane lane → (sent : List (List ℕ)) → RowKeeps (caught_in part.lane.ended) sent part.lane.store
       → RowKeeps (caught_in lane.ended) sent lane.store
@@ -160,23 +160,23 @@ module _ (p : Payment) (part : Part) where
   tells_sent : (p.durable ≡ true → part.lane.store.lost ≡ None) → Tells p part Came Behind
   unfolding all_settled_told
   tells_sent none = record {
-    still = none_more part [] (λ k. refl) (λ message there. there) (λ on sent kept. kept);
+    still = none_more part [] (λ k. refl) (nothing_came part.messages) (λ on sent kept. kept);
     goes = λ lane later replies card messages lines came.
         none_more (record { lane = record lane { running = Some replies }; card = card; messages = messages }) lines came.untold came.stays
         (λ on sent kept. later_keeps lane later sent kept);
     ends = λ lane later replies card messages lines came end is.
         none_more _ _ (λ k. end_untold lines (loses p lane.store end.capture) (length lane.ended + 1) end k (came.untold k)) came.stays
         (λ on sent kept. lane_keeps lane replies end on (later_lost lane later (none on)) sent (later_keeps lane later sent kept));
-    powers = λ rests free apps choice. none_came _ _ _ _ (λ k. refl);
-    power_cut = λ rests free apps is. none_came _ _ _ _ (λ k. refl);
-    powers_canned = λ rests free answers canned. none_came _ _ _ _ (λ k. refl);
-    answers = λ replies runs apps command asks. none_came _ _ _ _ (λ k. refl);
-    cuts = λ replies runs command cut at. none_came _ _ _ _ (λ k. refl);
-    tells = λ replies runs answers canned command answer. none_came _ _ _ _ (λ k. refl);
-    gone = λ replies runs answers canned command. none_came _ _ _ _ (λ k. refl);
+    powers = λ rests free apps choice. nothing_more _ _ _ _ (λ k. refl);
+    power_cut = λ rests free apps is. nothing_more _ _ _ _ (λ k. refl);
+    powers_canned = λ rests free answers canned. nothing_more _ _ _ _ (λ k. refl);
+    answers = λ replies runs apps command asks. nothing_more _ _ _ _ (λ k. refl);
+    cuts = λ replies runs command cut at. nothing_more _ _ _ _ (λ k. refl);
+    tells = λ replies runs answers canned command answer. nothing_more _ _ _ _ (λ k. refl);
+    gone = λ replies runs answers canned command. nothing_more _ _ _ _ (λ k. refl);
     hosts = λ replies runs message asks reply is. record {
       untold = host_untold message reply;
-      stays = λ other there. Contains-append_left part.messages (delivered p.planned.link message) other there;
+      stays = (delivered p.planned.link message, refl);
     };
   }
 
@@ -225,13 +225,13 @@ module _ (p : Payment) (part : Part) (some : 1 ≤ p.copies) (stored : p.durable
   unfolding all_settled_told
   lane_sends one other =
       lane_ways (λ m. Behind p part m.part m.lines) p part
-      (none_more p part part [] (λ k. refl) (λ message there. there) (λ on sent kept. kept))
+      (none_more p part part [] (λ k. refl) (nothing_came part.messages) (λ on sent kept. kept))
       (λ choice so. piece_tells p part (Came p part) (Behind p part) (tells_sent p part (unlost so)) choice)
       (λ at off cut.
-      none_more p part (record part { lane = lane_lost part.lane }) _ (λ k. lost_untold p part [] k) (λ message there. there)
+      none_more p part (record part { lane = lane_lost part.lane }) _ (λ k. lost_untold p part [] k) (nothing_came part.messages)
       (λ on sent kept. subst (λ (cs : List Caught). RowKeeps cs sent part.lane.store) (sym (lost_caught p part)) kept))
       (λ choice at off full.
-      none_more p part (part_with (opened_to_add part.lane.store choice) part) [] (λ k. refl) (λ message there. there)
+      none_more p part (part_with (opened_to_add part.lane.store choice) part) [] (λ k. refl) (nothing_came part.messages)
       (λ on sent kept. opened_keeps choice sent kept))
       (λ choice second at off room.
       (let behind = piece_tells p (part_with (opened_to_add part.lane.store choice) part) (Came p (part_with (opened_to_add part.lane.store choice) part))
@@ -243,6 +243,7 @@ module _ (p : Payment) (part : Part) (some : 1 ≤ p.copies) (stored : p.durable
         others = behind.others;
         stays = behind.stays;
         came = behind.came;
+        arrives = behind.arrives;
       }))
       (λ at on. first_delivered at on part.lane.store.list refl)
       one other
@@ -254,7 +255,7 @@ module _ (p : Payment) (part : Part) (some : 1 ≤ p.copies) (stored : p.durable
 
       first_delivered : AtRest p part → IsOn part true → (list : List (List ℕ)) → part.lane.store.list ≡ list
           → Behind p part (delivers_first p part list).part (delivers_first p part list).lines
-      first_delivered at on [] is = none_more p part part [] (λ k. refl) (λ m there. there) (λ durable sent kept. kept)
+      first_delivered at on [] is = none_more p part part [] (λ k. refl) (nothing_came part.messages) (λ durable sent kept. kept)
       first_delivered at on (message ∷ others) is = by (is_next_cut p.planned.terminal_tear part.lane.store)
         where
           none : part.lane.store.lost ≡ None
@@ -265,13 +266,18 @@ module _ (p : Payment) (part : Part) (some : 1 ≤ p.copies) (stored : p.durable
           dropped sent kept = store_keeps.drops (caught_in part.lane.ended) sent part.lane.store p.planned.terminal_tear message others none is kept
 
           stays : Stays part.messages (part.messages ++ replicate p.copies message)
-          stays other there = Contains-append_left part.messages (replicate p.copies message) other there
+          stays = (replicate p.copies message, refl)
 
-          came : All (Contains (part.messages ++ replicate p.copies message)) (message ∷ [])
-          came =
+          in_messages : All (Contains (part.messages ++ replicate p.copies message)) (message ∷ [])
+          in_messages =
               All-cons (Contains (part.messages ++ replicate p.copies message)) message []
               (Contains-append_right part.messages (replicate p.copies message) message (in_copies p.copies message some))
               (All-nil (Contains (part.messages ++ replicate p.copies message)))
+
+          arrives : (sent : List (List ℕ)) → AreAmong sent part.messages → AreAmong (sent ++ flat_map (replicate p.copies) (message ∷ [])) (part.messages ++ replicate p.copies message)
+          arrives sent among =
+              subst (λ (xs : List (List ℕ)). AreAmong (sent ++ xs) (part.messages ++ replicate p.copies message)) (sym (append-nil (replicate p.copies message)))
+              (among_both among (all_came (replicate p.copies message)))
 
           by : (cut : Bool) → Behind p part (dropped_by p (copied p message part) (copy_lines p message part.messages p.copies) cut).part
               (dropped_by p (copied p message part) (copy_lines p message part.messages p.copies) cut).lines
@@ -283,7 +289,8 @@ module _ (p : Payment) (part : Part) (some : 1 ≤ p.copies) (stored : p.durable
             others = λ k other.
                 lost_untold p part (copy_lines p message part.messages p.copies) k ∙ copies_untold p part k other message part.messages p.copies;
             stays = stays;
-            came = came;
+            came = in_messages;
+            arrives = arrives;
           }
           by false = record {
             more = message ∷ [];
@@ -291,7 +298,8 @@ module _ (p : Payment) (part : Part) (some : 1 ≤ p.copies) (stored : p.durable
             told = copies_told p part message part.messages p.copies ∙ one_told p part message;
             others = λ k other. copies_untold p part k other message part.messages p.copies;
             stays = stays;
-            came = came;
+            came = in_messages;
+            arrives = arrives;
           }
 
 -- so many copies of the first message were sent before it is dropped
@@ -317,6 +325,7 @@ pub record IsKept (s : ScenarioData) (w : World) (lines : List Line) (l : ℕ) (
   pub keeps : RowKeeps (caught_in (lane_at w l).ended) sent (lane_at w l).store
   pub told : all_settled_told l lines ≡ map (call_in (dialect_of s l)) (flat_map (replicate s.copies) sent ++ extras)
   pub came : All (Contains w.messages) sent
+  pub arrived : AreAmong (flat_map (replicate s.copies) sent ++ extras) w.messages
 
 module _ (s : ScenarioData) (l : ℕ) (on : durable_of s l ≡ true) where
   -- with lines that tell nothing more of it, and a row that keeps the same
@@ -334,14 +343,17 @@ module _ (s : ScenarioData) (l : ℕ) (on : durable_of s l ≡ true) where
         ∙ append-nil (all_settled_told l lines)
         ∙ kept.told
         ∙ ap (λ (xs : List (List ℕ)). map (call_in (dialect_of s l)) (flat_map (replicate s.copies) kept.sent ++ xs)) same;
-    came = All-weaker (Contains w.messages) (Contains after.messages) stays kept.sent kept.came;
+    came = All-weaker (Contains w.messages) (Contains after.messages) (contained w.messages after.messages stays) kept.sent kept.came;
+    arrived =
+        subst (λ (xs : List (List ℕ)). AreAmong (flat_map (replicate s.copies) kept.sent ++ xs) after.messages) same
+        (among_more (flat_map (replicate s.copies) kept.sent ++ extras) w.messages after.messages kept.arrived stays);
   }
 
   turn_keeps : 1 ≤ s.copies → (w : World) (lines : List Line) (k : ℕ) (choices : List Bool) → IsWorldSound s w → StoresStand s w → (o : Option Payment) → next_of s w k ≡ o
       → ((i : ℕ) → (lane_at w i).store.found ≡ None) → IsKept s w lines l []
       → IsKept s (turned_by w k choices o).world (lines ++ (turned_by w k choices o).lines) l []
   unfolding all_settled_told
-  turn_keeps some w lines k choices sound stand None is first kept = quiet w w lines [] [] [] refl refl (λ message there. there) (λ sent keeps. keeps) kept
+  turn_keeps some w lines k choices sound stand None is first kept = quiet w w lines [] [] [] refl refl (nothing_came w.messages) (λ sent keeps. keeps) kept
   turn_keeps some w lines k choices sound stand (Some p) is first kept = by_lane (cases_eq l k)
     where
       part : Part
@@ -391,7 +403,14 @@ module _ (s : ScenarioData) (l : ℕ) (on : durable_of s l ≡ true) where
                 ∙ sym (append-nil (flat_map (replicate s.copies) (kept.sent ++ behind.more))));
             came =
                 All-append (Contains m.part.messages) kept.sent behind.more
-                (All-weaker (Contains w.messages) (Contains m.part.messages) behind.stays kept.sent kept.came) behind.came;
+                (All-weaker (Contains w.messages) (Contains m.part.messages) (contained w.messages m.part.messages behind.stays) kept.sent kept.came) behind.came;
+            arrived =
+                subst (λ (xs : List (List ℕ)). AreAmong xs m.part.messages)
+                ((λ i. (flat_map (replicate s.copies) kept.sent ++ []) ++ flat_map (replicate (copies i)) behind.more)
+                ∙ ap (λ (xs : List (List ℕ)). xs ++ flat_map (replicate s.copies) behind.more) (append-nil (flat_map (replicate s.copies) kept.sent))
+                ∙ sym (flat_map-append (replicate s.copies) kept.sent behind.more)
+                ∙ sym (append-nil (flat_map (replicate s.copies) (kept.sent ++ behind.more))))
+                (behind.arrives (flat_map (replicate s.copies) kept.sent ++ []) kept.arrived);
           }
 
       by_lane : (l ≡ k) ⊎ (l ≢ k) → IsKept s after (lines ++ m.lines) l []
@@ -497,7 +516,7 @@ module _ (s : ScenarioData) (l : ℕ) (on : durable_of s l ≡ true) (some : 1 �
       → IsKept s (settles s w choices (Some (Opens l))).world (lines ++ []) l (extra s (settles s w choices (Some (Opens l))).world l (Settling (k + 1)))
   unfolding all_settled_told
   opens_kept w lines k choices here kept =
-      quiet s l on w after lines [] (extra s w l (Settling k)) (extra s after l (Settling (k + 1))) refl (none_now ∙ sym none_next) (λ message there. there)
+      quiet s l on w after lines [] (extra s w l (Settling k)) (extra s after l (Settling (k + 1))) refl (none_now ∙ sym none_next) (nothing_came w.messages)
       (λ sent keeps.
       subst (λ (x : LaneRow). RowKeeps (caught_in x.ended) sent x.store) (sym own)
       (store_keeps.opens (caught_in (lane_at w l).ended) sent (lane_at w l).store (choice_in choices 0) keeps)) kept
@@ -583,10 +602,18 @@ module _ (s : ScenarioData) (l : ℕ) (on : durable_of s l ≡ true) (some : 1 �
           ∙ ap (map call) (append_assoc (flat_map (replicate s.copies) kept.sent) (replicate (sends.place % s.copies) message) (message ∷ [])
           ∙ ap (λ (xs : List (List ℕ)). flat_map (replicate s.copies) kept.sent ++ xs) (replicate_push (sends.place % s.copies) message))
 
-      came : All (Contains after.messages) kept.sent
-      came =
-          All-weaker (Contains w.messages) (Contains after.messages) (λ other there. Contains-append_left w.messages (message ∷ []) other there) kept.sent
+      in_messages : All (Contains after.messages) kept.sent
+      in_messages =
+          All-weaker (Contains w.messages) (Contains after.messages) (contained w.messages after.messages (message ∷ [], refl)) kept.sent
           kept.came
+
+      -- and has come
+      one_more_came : AreAmong (flat_map (replicate s.copies) kept.sent ++ replicate (suc (sends.place % s.copies)) message) after.messages
+      one_more_came =
+          subst (λ (xs : List (List ℕ)). AreAmong xs after.messages)
+          (append_assoc (flat_map (replicate s.copies) kept.sent) (replicate (sends.place % s.copies) message) (message ∷ [])
+          ∙ ap (λ (xs : List (List ℕ)). flat_map (replicate s.copies) kept.sent ++ xs) (replicate_push (sends.place % s.copies) message))
+          (among_both (subst (λ (xs : List (List ℕ)). AreAmong (flat_map (replicate s.copies) kept.sent ++ xs) w.messages) now kept.arrived) (all_came (message ∷ [])))
 
       by : (b : Bool) → drops ≡ b → IsKept s after (lines ++ settle_lines (dialect_of s l) l message reply) l (extra s after l (Settling (k + 1)))
       by false is = record {
@@ -594,7 +621,8 @@ module _ (s : ScenarioData) (l : ℕ) (on : durable_of s l ≡ true) (some : 1 �
         keeps = subst (λ (x : LaneRow). RowKeeps (caught_in x.ended) kept.sent x.store) (sym own)
             (subst (λ (c : Bool). RowKeeps (caught_in (lane_at w l).ended) kept.sent (settled_store c (lane_at w l).store)) (sym is) kept.keeps);
         told = one_more_told ∙ ap (λ (xs : List (List ℕ)). map call (flat_map (replicate s.copies) kept.sent ++ xs)) (sym next);
-        came = came;
+        came = in_messages;
+        arrived = subst (λ (xs : List (List ℕ)). AreAmong (flat_map (replicate s.copies) kept.sent ++ xs) after.messages) (sym next) one_more_came;
       }
         where
           list_next : (lane_at after l).store.list ≡ message ∷ drop (sends.place / s.copies + 1) reached.found
@@ -621,7 +649,12 @@ module _ (s : ScenarioData) (l : ℕ) (on : durable_of s l ≡ true) (some : 1 �
             ∙ ap (λ n. map call (flat_map (replicate s.copies) kept.sent ++ replicate n message)) whole
             ∙ ap (map call) (sym sent_so ∙ sym (append-nil (flat_map (replicate s.copies) (kept.sent ++ message ∷ []))))
             ∙ ap (λ (xs : List (List ℕ)). map call (flat_map (replicate s.copies) (kept.sent ++ message ∷ []) ++ xs)) (sym next);
-        came = All-push (Contains after.messages) kept.sent message came (Contains-push w.messages message);
+        came = All-push (Contains after.messages) kept.sent message in_messages (Contains-push w.messages message);
+        arrived =
+            subst (λ (xs : List (List ℕ)). AreAmong xs after.messages)
+            (ap (λ n. flat_map (replicate s.copies) kept.sent ++ replicate n message) whole
+            ∙ sym sent_so ∙ sym (append-nil (flat_map (replicate s.copies) (kept.sent ++ message ∷ [])))
+            ∙ ap (λ (xs : List (List ℕ)). flat_map (replicate s.copies) (kept.sent ++ message ∷ []) ++ xs) (sym next)) one_more_came;
       }
         where
           whole : suc (sends.place % s.copies) ≡ s.copies
@@ -657,7 +690,7 @@ module _ (s : ScenarioData) (l : ℕ) (on : durable_of s l ≡ true) (some : 1 �
             quiet s l on w (settles s w choices (Some (Opens m))).world lines [] (extra s w l (Settling k))
             (extra s (settles s w choices (Some (Opens m))).world l (Settling (k + 1))) refl
             (other_step w (settles s w choices (Some (Opens m))).world k (Opens m) found (λ e. differs (e ∙ sym lane)) sound through next row)
-            (λ message there. there)
+            (nothing_came w.messages)
             (λ sent keeps. subst (λ (x : LaneRow). RowKeeps (caught_in x.ended) sent x.store) (sym row) keeps) kept)
       ]
   settle_kept w lines k choices (Sends m message drops) here sound through next kept =
@@ -676,7 +709,7 @@ module _ (s : ScenarioData) (l : ℕ) (on : durable_of s l ≡ true) (some : 1 �
             (extra s w l (Settling k)) (extra s (settles s w choices (Some (Sends m message drops))).world l (Settling (k + 1)))
             (other_settle (dialect_of s m) l m differs message (host_reply s.issuer s.accounts w.messages message))
             (other_step w (settles s w choices (Some (Sends m message drops))).world k (Sends m message drops) found (λ e. differs (e ∙ sym lane)) sound through next row)
-            (λ other there. Contains-append_left w.messages (message ∷ []) other there)
+            (message ∷ [], refl)
             (λ sent keeps. subst (λ (x : LaneRow). RowKeeps (caught_in x.ended) sent x.store) (sym row) keeps) kept)
       ]
 
@@ -688,9 +721,9 @@ module _ (s : ScenarioData) (l : ℕ) (on : durable_of s l ≡ true) (some : 1 �
   check_untold w choices (Some (Asks i card command)) = refl
 
   check_stays : (w : World) (choices : List Bool) (o : Option Check) → Stays w.messages (audits w choices o).world.messages
-  check_stays w choices None message there = there
-  check_stays w choices (Some (PowersUp i card)) message there = there
-  check_stays w choices (Some (Asks i card command)) message there = there
+  check_stays w choices None = nothing_came w.messages
+  check_stays w choices (Some (PowersUp i card)) = nothing_came w.messages
+  check_stays w choices (Some (Asks i card command)) = nothing_came w.messages
 
   first_kept : IsKept s (first_world s) [] l []
   unfolding all_settled_told caught_in
@@ -699,6 +732,7 @@ module _ (s : ScenarioData) (l : ℕ) (on : durable_of s l ≡ true) (some : 1 �
     keeps = subst (λ (row : LaneRow). RowKeeps (caught_in row.ended) [] row.store) (sym (get_or-map_const s.lanes l new_lane)) store_keeps.begins;
     told = refl;
     came = All-nil (Contains (first_world s).messages);
+    arrived = none_came;
   }
 
   again_kept : (w : World) (lines : List Line) (extras later : List (List ℕ)) → extras ≡ later → IsKept s w lines l extras → IsKept s w lines l later
@@ -778,6 +812,8 @@ captures_sent s lines w l some on run =
           ∙ append-nil (all_settled_told l run.reported)
           ∙ kept.told
           ∙ ap (map (call_in (dialect_of s l))) (append-nil (flat_map (replicate s.copies) kept.sent));
+      arrived =
+          subst (λ (xs : List (List ℕ)). AreAmong xs w.messages) (append-nil (flat_map (replicate s.copies) kept.sent)) kept.arrived;
       delivered =
           All-weaker (Contains w.messages) (IsDelivered s.issuer s.accounts w.messages)
           (λ message there. delivered_at s.issuer s.accounts w.messages message there.0 (found_at w.messages there.0 message there.1 (sym there.2))) kept.sent
