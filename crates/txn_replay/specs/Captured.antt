@@ -23,7 +23,7 @@ use Rattle.report_text.specs.declared.line.Line.{Line}
 use Rattle.report_text.specs.declared.line.Line.TheVariants.{SettleCall, EndLost}
 use Rattle.scenario.specs.Plan.{ScenarioData}
 use Rattle.txn_replay.specs.Counting.{lost_count}
-use Rattle.txn_replay.specs.Payment.{dialect_of, durable_of}
+use Rattle.txn_replay.specs.Payment.{Payment, payment_in, dialect_of, durable_of}
 use Rattle.txn_replay.specs.Run.{RunPlace, Reached, Run}
 use Rattle.txn_replay.specs.World.{Past, World, lane_at}
 
@@ -75,13 +75,18 @@ pub data AreAmong : List (List ℕ) → List (List ℕ) → Type 0 where
   came : {sent messages : List (List ℕ)} (message : List ℕ) → AreAmong sent messages → AreAmong (message ∷ sent) (message ∷ messages)
   passed : {sent messages : List (List ℕ)} (message : List ℕ) → AreAmong sent messages → AreAmong sent (message ∷ messages)
 
+-- no purchase of a lane has a tear of its terminal
+abbrev pub IsUntorn : ScenarioData → ℕ → Type 0
+IsUntorn s l = (number : ℕ) (p : Payment) → payment_in s l number ≡ Some p → p.planned.terminal_tear ≡ None
+
 -- each capture of a purchase that wasn't lost was sent whole, in the order of the purchases, each copy; that of a lost purchase
--- whole or never; one may be sent again, as its drop may be lost. What was sent came to the host, all its copies, in this order.
+-- whole or never; one may be sent again, as its drop may be lost. What was sent came to the host, all its copies, in this order. A lane without a tear sends each capture once.
 pub record AreSent (s : ScenarioData) (lines : List Line) (w : World) (l : ℕ) : Type 0 where
   pub sent : List (List ℕ)
   pub sends : Sends (caught_in (lane_at w l).ended) sent
   pub told : all_settled_told l lines ≡ map (call_in (dialect_of s l)) (flat_map (replicate s.copies) sent)
   pub arrived : AreAmong (flat_map (replicate s.copies) sent) w.messages
+  pub exact : IsUntorn s l → sent ≡ map (λ caught. caught.message) (caught_in (lane_at w l).ended)
   pub delivered : All (IsDelivered s.issuer s.accounts w.messages) sent
 
 -- so it is of each whole run and of each lane that keeps its captures durably

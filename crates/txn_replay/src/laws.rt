@@ -92,8 +92,9 @@ pub fn pages_tell_totals()
 
 /// Of a lane that keeps its captures durably, each capture of a purchase that wasn't lost is sent whole, in the
 /// order of the purchases; that of a lost purchase is sent whole or never; one may be sent again, as its drop may be
-/// lost. What is sent comes to the host, and a presentment's transaction is booked where the host's reply
-/// to it has code 00. A lane has lost as many purchases as its lines tell.
+/// lost. A lane without a tear of its terminal sends each exactly once. What is sent comes to the host, all its copies,
+/// in this order, and a presentment's transaction is booked where the host's reply to it has code 00. A lane has lost
+/// as many purchases as its lines tell.
 pub fn captures_are_sent()
     ensures sent { CapturesAreSent }
     ensures lost { LostAreTold }

@@ -10,7 +10,7 @@ use Rattle.std.proofs.lemmas.List.Elements.{All-nil, All-cons, All-append, All-p
 use Rattle.std.proofs.lemmas.Option.{slice_get_within}
 use Rattle.std.proofs.Math.Nat.{zero-mod}
 use Rattle.capture_store.proofs.Sendings.{store_keeps}
-use Rattle.capture_store.specs.Sending.{Caught, RowKeeps}
+use Rattle.capture_store.specs.Sending.{Caught}
 use Rattle.capture_store.specs.StoreRow.{StoreRow, is_next_cut, opened_to_add, opened_to_settle, ended_by}
 use Rattle.host_link.specs.Delivery.{delivered}
 use Rattle.host_link.specs.Dialect.{call_in}
@@ -21,10 +21,10 @@ use Rattle.kernel.specs.Reply.{Reply}
 use Rattle.report_text.specs.declared.line.Line.{Line}
 use Rattle.report_text.specs.declared.line.Line.TheVariants.{EndLost, Done}
 use Rattle.scenario.specs.Plan.{ScenarioData}
-use Rattle.txn_replay.specs.Captured.{AreAmong, none_came, captured_by, caught_of, caught_in, settled_told, all_settled_told, IsDelivered, CapturesAreSent}
+use Rattle.txn_replay.specs.Captured.{AreAmong, none_came, IsUntorn, captured_by, caught_of, caught_in, settled_told, all_settled_told, IsDelivered, CapturesAreSent}
 use Rattle.txn_replay.specs.Lines.{host_lines, settle_lines, outcome_line}
 use Rattle.txn_replay.specs.Part.{Part, Moved, loses_by, loses, lane_ended}
-use Rattle.txn_replay.specs.Payment.{Payment, dialect_of, durable_of, next_of}
+use Rattle.txn_replay.specs.Payment.{Payment, payment_in, dialect_of, durable_of, next_of}
 use Rattle.txn_replay.specs.Run.{RunPlace, Scheduled, Round, Settling, Auditing, Finished, Reached, start, scheduled, rounds, round, again, settlement, settling, audit, auditing, finished, balance_line, account_lines, ended_count, closing}
 use Rattle.txn_replay.specs.Sound.{IsWorldSound}
 use Rattle.txn_replay.specs.Steps.{After, Settlement, Opens, Sends, Check, PowersUp, Asks, settlements, settlements_from, lane_settlements, settles, settled_store, lane_settled, checks, audits, part_of, choice_in, turned_by, happens}
@@ -34,6 +34,7 @@ use Rattle.txn_replay.specs.World.{Past, LaneRow, CardRow, World, new_lane, firs
 use Rattle.txn_replay.specs.declared.event.Event.TheVariants.{Turn, Settle, Audit}
 use Rattle.txn_replay.proofs.CaptureLaws.ApprovedBooked.{delivered_at}
 use Rattle.txn_replay.proofs.CaptureLaws.Arriving.{Stays, nothing_came, all_came, among_both, among_more, contained}
+use Rattle.txn_replay.proofs.CaptureLaws.Exactly.{Keeps, keeps_begun, keeps_opened, keeps_added, keeps_dropped}
 use Rattle.txn_replay.proofs.ExchangeLaws.ExchangeCases.{Tells, piece_tells}
 use Rattle.txn_replay.proofs.RunLaws.FairRuns.{reached_sound}
 use Rattle.txn_replay.proofs.RunLaws.LinesReached.{apart, lane_behind}
@@ -76,12 +77,12 @@ in_copies : (n : ℕ) (message : List ℕ) → 1 ≤ n → Contains (replicate n
 in_copies zero message some = absurd (omega arith)
 in_copies (suc n) message some = (0, (omega arith), refl)
 
-module _ (p : Payment) (part : Part) where
+module _ (Calm : Type 0) (p : Payment) (part : Part) (uncut : Calm → p.planned.terminal_tear ≡ None) where
   -- what more an exchange sends, and what the store keeps behind it
   pub record Behind (after : Part) (lines : List Line) : Type 0 where
     pub more : List (List ℕ)
-    pub keeps : p.durable ≡ true → (sent : List (List ℕ)) → RowKeeps (caught_in part.lane.ended) sent part.lane.store
-        → RowKeeps (caught_in after.lane.ended) (sent ++ more) after.lane.store
+    pub keeps : p.durable ≡ true → (sent : List (List ℕ)) → Keeps Calm (caught_in part.lane.ended) sent part.lane.store
+        → Keeps Calm (caught_in after.lane.ended) (sent ++ more) after.lane.store
     pub told : all_settled_told p.lane lines ≡ sent_copies p.iso p.copies more
     pub others : (k : ℕ) → k ≢ p.lane → all_settled_told k lines ≡ []
     pub stays : Stays part.messages after.messages
@@ -90,12 +91,12 @@ module _ (p : Payment) (part : Part) where
 
   -- nothing more is sent
   none_more : (after : Part) (lines : List Line) → ((k : ℕ) → all_settled_told k lines ≡ []) → Stays part.messages after.messages
-      → (p.durable ≡ true → (sent : List (List ℕ)) → RowKeeps (caught_in part.lane.ended) sent part.lane.store
-      → RowKeeps (caught_in after.lane.ended) sent after.lane.store) → Behind after lines
+      → (p.durable ≡ true → (sent : List (List ℕ)) → Keeps Calm (caught_in part.lane.ended) sent part.lane.store
+      → Keeps Calm (caught_in after.lane.ended) sent after.lane.store) → Behind after lines
   none_more after lines untold stays keeps = record {
     more = [];
     keeps = λ on sent kept.
-        subst (λ (xs : List (List ℕ)). RowKeeps (caught_in after.lane.ended) xs after.lane.store) (sym (append-nil sent)) (keeps on sent kept);
+        subst (λ (xs : List (List ℕ)). Keeps Calm (caught_in after.lane.ended) xs after.lane.store) (sym (append-nil sent)) (keeps on sent kept);
     told = untold p.lane;
     others = λ k other. untold k;
     stays = stays;
@@ -114,8 +115,8 @@ module _ (p : Payment) (part : Part) where
       → Came lane replies card part.messages lines
   nothing_more lane replies card lines untold = record { untold = untold; stays = nothing_came part.messages }
 
-  later_keeps : (lane : LaneRow) → Later part.lane lane → (sent : List (List ℕ)) → RowKeeps (caught_in part.lane.ended) sent part.lane.store
-      → RowKeeps (caught_in lane.ended) sent lane.store
+  later_keeps : (lane : LaneRow) → Later part.lane lane → (sent : List (List ℕ)) → Keeps Calm (caught_in part.lane.ended) sent part.lane.store
+      → Keeps Calm (caught_in lane.ended) sent lane.store
   later_keeps _ as_is sent kept = kept
   later_keeps _ (beginning found) sent kept = kept
   later_keeps _ (messaging message) sent kept = kept
@@ -126,17 +127,17 @@ module _ (p : Payment) (part : Part) where
   later_lost _ (messaging message) none = none
 
   -- a purchase ends, and what it has captured is added
-  ended_keeps : (store : StoreRow) (capture : Option (List ℕ)) (caught : List Caught) (sent : List (List ℕ)) → store.lost ≡ None → RowKeeps caught sent store
-      → RowKeeps (caught ++ captured_by (loses_by p.planned.terminal_tear store capture) capture) sent (ended_by p.planned.terminal_tear store capture)
-  ended_keeps store None caught sent none kept = subst (λ (cs : List Caught). RowKeeps cs sent store) (sym (append-nil caught)) kept
-  ended_keeps store (Some message) caught sent none kept = store_keeps.adds caught sent store p.planned.terminal_tear message none kept
+  ended_keeps : (store : StoreRow) (capture : Option (List ℕ)) (caught : List Caught) (sent : List (List ℕ)) → store.lost ≡ None → Keeps Calm caught sent store
+      → Keeps Calm (caught ++ captured_by (loses_by p.planned.terminal_tear store capture) capture) sent (ended_by p.planned.terminal_tear store capture)
+  ended_keeps store None caught sent none kept = subst (λ (cs : List Caught). Keeps Calm cs sent store) (sym (append-nil caught)) kept
+  ended_keeps store (Some message) caught sent none kept = keeps_added Calm caught sent store p.planned.terminal_tear message uncut none kept
 
   lane_keeps : (lane : LaneRow) (replies : List Reply) (end : EndData) → p.durable ≡ true → lane.store.lost ≡ None → (sent : List (List ℕ))
-      → RowKeeps (caught_in lane.ended) sent lane.store
-      → RowKeeps (caught_in (lane_ended p replies end lane).ended) sent (lane_ended p replies end lane).store
+      → Keeps Calm (caught_in lane.ended) sent lane.store
+      → Keeps Calm (caught_in (lane_ended p replies end lane).ended) sent (lane_ended p replies end lane).store
   lane_keeps lane replies end on none sent kept =
-      subst (λ (cs : List Caught). RowKeeps cs sent (lane_ended p replies end lane).store) (sym caught)
-      (subst (λ (b : Bool). RowKeeps (caught_in lane.ended ++ captured_by (b && loses_by p.planned.terminal_tear lane.store end.capture) end.capture) sent
+      subst (λ (cs : List Caught). Keeps Calm cs sent (lane_ended p replies end lane).store) (sym caught)
+      (subst (λ (b : Bool). Keeps Calm (caught_in lane.ended ++ captured_by (b && loses_by p.planned.terminal_tear lane.store end.capture) end.capture) sent
       (if b then ended_by p.planned.terminal_tear lane.store end.capture else lane.store)) (sym on)
       (ended_keeps lane.store end.capture (caught_in lane.ended) sent none kept))
     where
@@ -215,27 +216,27 @@ module _ (p : Payment) (part : Part) where
   lost_untold lines k =
       settled-append k lines (EndLost p.lane (length part.lane.ended + 1) ∷ []) ∙ append-nil (all_settled_told k lines)
 
-module _ (p : Payment) (part : Part) (some : 1 ≤ p.copies) (stored : p.durable ≡ true → IsStored part.lane) (first : part.lane.store.found ≡ None) where
+module _ (Calm : Type 0) (p : Payment) (part : Part) (uncut : Calm → p.planned.terminal_tear ≡ None) (some : 1 ≤ p.copies) (stored : p.durable ≡ true → IsStored part.lane) (first : part.lane.store.found ≡ None) where
   -- with what comes before a purchase
-  opened_keeps : (one : Bool) (sent : List (List ℕ)) → RowKeeps (caught_in part.lane.ended) sent part.lane.store
-      → RowKeeps (caught_in part.lane.ended) sent (opened_to_add part.lane.store one)
-  opened_keeps one sent kept = store_keeps.opens (caught_in part.lane.ended) sent part.lane.store one kept
+  opened_keeps : (one : Bool) (sent : List (List ℕ)) → Keeps Calm (caught_in part.lane.ended) sent part.lane.store
+      → Keeps Calm (caught_in part.lane.ended) sent (opened_to_add part.lane.store one)
+  opened_keeps one sent kept = keeps_opened Calm (caught_in part.lane.ended) sent part.lane.store one kept
 
-  lane_sends : (one other : Bool) → Behind p part (lane_piece p part one other).part (lane_piece p part one other).lines
+  lane_sends : (one other : Bool) → Behind Calm p part uncut (lane_piece p part one other).part (lane_piece p part one other).lines
   unfolding all_settled_told
   lane_sends one other =
-      lane_ways (λ m. Behind p part m.part m.lines) p part
-      (none_more p part part [] (λ k. refl) (nothing_came part.messages) (λ on sent kept. kept))
-      (λ choice so. piece_tells p part (Came p part) (Behind p part) (tells_sent p part (unlost so)) choice)
+      lane_ways (λ m. Behind Calm p part uncut m.part m.lines) p part
+      (none_more Calm p part uncut part [] (λ k. refl) (nothing_came part.messages) (λ on sent kept. kept))
+      (λ choice so. piece_tells p part (Came Calm p part uncut) (Behind Calm p part uncut) (tells_sent Calm p part uncut (unlost so)) choice)
       (λ at off cut.
-      none_more p part (record part { lane = lane_lost part.lane }) _ (λ k. lost_untold p part [] k) (nothing_came part.messages)
-      (λ on sent kept. subst (λ (cs : List Caught). RowKeeps cs sent part.lane.store) (sym (lost_caught p part)) kept))
+      none_more Calm p part uncut (record part { lane = lane_lost part.lane }) _ (λ k. lost_untold Calm p part uncut [] k) (nothing_came part.messages)
+      (λ on sent kept. subst (λ (cs : List Caught). Keeps Calm cs sent part.lane.store) (sym (lost_caught Calm p part uncut)) kept))
       (λ choice at off full.
-      none_more p part (part_with (opened_to_add part.lane.store choice) part) [] (λ k. refl) (nothing_came part.messages)
+      none_more Calm p part uncut (part_with (opened_to_add part.lane.store choice) part) [] (λ k. refl) (nothing_came part.messages)
       (λ on sent kept. opened_keeps choice sent kept))
       (λ choice second at off room.
-      (let behind = piece_tells p (part_with (opened_to_add part.lane.store choice) part) (Came p (part_with (opened_to_add part.lane.store choice) part))
-      (Behind p (part_with (opened_to_add part.lane.store choice) part)) (tells_sent p (part_with (opened_to_add part.lane.store choice) part) (λ on. refl)) second in
+      (let behind = piece_tells p (part_with (opened_to_add part.lane.store choice) part) (Came Calm p (part_with (opened_to_add part.lane.store choice) part) uncut)
+      (Behind Calm p (part_with (opened_to_add part.lane.store choice) part) uncut) (tells_sent Calm p (part_with (opened_to_add part.lane.store choice) part) uncut (λ on. refl)) second in
       record {
         more = behind.more;
         keeps = λ on sent kept. behind.keeps on sent (opened_keeps choice sent kept);
@@ -254,16 +255,16 @@ module _ (p : Payment) (part : Part) (some : 1 ≤ p.copies) (stored : p.durable
       unlost (ready at is_on) on = ((stored on).clean (ap is_some is_on.on)).none
 
       first_delivered : AtRest p part → IsOn part true → (list : List (List ℕ)) → part.lane.store.list ≡ list
-          → Behind p part (delivers_first p part list).part (delivers_first p part list).lines
-      first_delivered at on [] is = none_more p part part [] (λ k. refl) (nothing_came part.messages) (λ durable sent kept. kept)
+          → Behind Calm p part uncut (delivers_first p part list).part (delivers_first p part list).lines
+      first_delivered at on [] is = none_more Calm p part uncut part [] (λ k. refl) (nothing_came part.messages) (λ durable sent kept. kept)
       first_delivered at on (message ∷ others) is = by (is_next_cut p.planned.terminal_tear part.lane.store)
         where
           none : part.lane.store.lost ≡ None
           none = ((stored at.durable).clean (ap is_some on.on)).none
 
-          dropped : (sent : List (List ℕ)) → RowKeeps (caught_in part.lane.ended) sent part.lane.store
-              → RowKeeps (caught_in part.lane.ended) (sent ++ message ∷ []) (lane_copied p message part.lane).store
-          dropped sent kept = store_keeps.drops (caught_in part.lane.ended) sent part.lane.store p.planned.terminal_tear message others none is kept
+          dropped : (sent : List (List ℕ)) → Keeps Calm (caught_in part.lane.ended) sent part.lane.store
+              → Keeps Calm (caught_in part.lane.ended) (sent ++ message ∷ []) (lane_copied p message part.lane).store
+          dropped sent kept = keeps_dropped Calm (caught_in part.lane.ended) sent part.lane.store p.planned.terminal_tear message others uncut none is kept
 
           stays : Stays part.messages (part.messages ++ replicate p.copies message)
           stays = (replicate p.copies message, refl)
@@ -279,15 +280,15 @@ module _ (p : Payment) (part : Part) (some : 1 ≤ p.copies) (stored : p.durable
               subst (λ (xs : List (List ℕ)). AreAmong (sent ++ xs) (part.messages ++ replicate p.copies message)) (sym (append-nil (replicate p.copies message)))
               (among_both among (all_came (replicate p.copies message)))
 
-          by : (cut : Bool) → Behind p part (dropped_by p (copied p message part) (copy_lines p message part.messages p.copies) cut).part
+          by : (cut : Bool) → Behind Calm p part uncut (dropped_by p (copied p message part) (copy_lines p message part.messages p.copies) cut).part
               (dropped_by p (copied p message part) (copy_lines p message part.messages p.copies) cut).lines
           by true = record {
             more = message ∷ [];
             keeps = λ durable sent kept.
-                subst (λ (cs : List Caught). RowKeeps cs (sent ++ message ∷ []) (lane_copied p message part.lane).store) (sym (lost_caught p part)) (dropped sent kept);
-            told = lost_untold p part (copy_lines p message part.messages p.copies) p.lane ∙ copies_told p part message part.messages p.copies ∙ one_told p part message;
+                subst (λ (cs : List Caught). Keeps Calm cs (sent ++ message ∷ []) (lane_copied p message part.lane).store) (sym (lost_caught Calm p part uncut)) (dropped sent kept);
+            told = lost_untold Calm p part uncut (copy_lines p message part.messages p.copies) p.lane ∙ copies_told Calm p part uncut message part.messages p.copies ∙ one_told Calm p part uncut message;
             others = λ k other.
-                lost_untold p part (copy_lines p message part.messages p.copies) k ∙ copies_untold p part k other message part.messages p.copies;
+                lost_untold Calm p part uncut (copy_lines p message part.messages p.copies) k ∙ copies_untold Calm p part uncut k other message part.messages p.copies;
             stays = stays;
             came = in_messages;
             arrives = arrives;
@@ -295,8 +296,8 @@ module _ (p : Payment) (part : Part) (some : 1 ≤ p.copies) (stored : p.durable
           by false = record {
             more = message ∷ [];
             keeps = λ durable sent kept. dropped sent kept;
-            told = copies_told p part message part.messages p.copies ∙ one_told p part message;
-            others = λ k other. copies_untold p part k other message part.messages p.copies;
+            told = copies_told Calm p part uncut message part.messages p.copies ∙ one_told Calm p part uncut message;
+            others = λ k other. copies_untold Calm p part uncut k other message part.messages p.copies;
             stays = stays;
             came = in_messages;
             arrives = arrives;
@@ -322,7 +323,7 @@ extra s w l Finished = []
 -- the store keeps what was caught and not sent yet, and the lines tell what was sent, which came to the host
 pub record IsKept (s : ScenarioData) (w : World) (lines : List Line) (l : ℕ) (extras : List (List ℕ)) : Type 0 where
   pub sent : List (List ℕ)
-  pub keeps : RowKeeps (caught_in (lane_at w l).ended) sent (lane_at w l).store
+  pub keeps : Keeps (IsUntorn s l) (caught_in (lane_at w l).ended) sent (lane_at w l).store
   pub told : all_settled_told l lines ≡ map (call_in (dialect_of s l)) (flat_map (replicate s.copies) sent ++ extras)
   pub came : All (Contains w.messages) sent
   pub arrived : AreAmong (flat_map (replicate s.copies) sent ++ extras) w.messages
@@ -331,8 +332,8 @@ module _ (s : ScenarioData) (l : ℕ) (on : durable_of s l ≡ true) where
   -- with lines that tell nothing more of it, and a row that keeps the same
   quiet : (w after : World) (lines new : List Line) (extras later : List (List ℕ)) → all_settled_told l new ≡ [] → extras ≡ later
       → Stays w.messages after.messages
-      → ((sent : List (List ℕ)) → RowKeeps (caught_in (lane_at w l).ended) sent (lane_at w l).store
-      → RowKeeps (caught_in (lane_at after l).ended) sent (lane_at after l).store)
+      → ((sent : List (List ℕ)) → Keeps (IsUntorn s l) (caught_in (lane_at w l).ended) sent (lane_at w l).store
+      → Keeps (IsUntorn s l) (caught_in (lane_at after l).ended) sent (lane_at after l).store)
       → IsKept s w lines l extras → IsKept s after (lines ++ new) l later
   quiet w after lines new extras later none same stays keeps kept = record {
     sent = kept.sent;
@@ -375,12 +376,14 @@ module _ (s : ScenarioData) (l : ℕ) (on : durable_of s l ≡ true) where
       some_here : 1 ≤ p.copies
       some_here = let same : p.copies ≡ s.copies = (payment_facts s k _ p is).copies in omega arith
 
-      behind : Behind p part m.part m.lines
-      behind = lane_sends p part some_here stored (first k) (choice_in choices 0) (choice_in choices 1)
+      behind_where : (Calm : Type 0) (uncut : Calm → p.planned.terminal_tear ≡ None) → Behind Calm p part uncut m.part m.lines
+      behind_where Calm uncut = lane_sends Calm p part uncut some_here stored (first k) (choice_in choices 0) (choice_in choices 1)
 
       -- the lane's own exchange
       own : l ≡ k → IsKept s after (lines ++ m.lines) l []
       own same =
+          let uncut : IsUntorn s l → p.planned.terminal_tear ≡ None = λ untorn. untorn (length (lane_at w k).ended) p (ap (λ n. payment_in s n (length (lane_at w k).ended)) same ∙ is) in
+          let behind : Behind (IsUntorn s l) p part uncut m.part m.lines = behind_where (IsUntorn s l) uncut in
           let durable : p.durable ≡ true = (payment_facts s k _ p is).durable ∙ ap (λ n. durable_of s n) (sym same) ∙ on in
           let row : lane_at after l ≡ m.part.lane = ap (λ n. lane_at after n) same ∙ lane_behind s w k p sound is m in
           let was : lane_at w l ≡ lane_at w k = ap (λ n. lane_at w n) same in
@@ -391,8 +394,8 @@ module _ (s : ScenarioData) (l : ℕ) (on : durable_of s l ≡ true) where
           ap (λ n. all_settled_told n m.lines) (sym here) ∙ behind.told ∙ (λ i. sent_copies (iso i) (copies i) behind.more) in
           record {
             sent = kept.sent ++ behind.more;
-            keeps = subst (λ (x : LaneRow). RowKeeps (caught_in x.ended) (kept.sent ++ behind.more) x.store) (sym row)
-                (behind.keeps durable kept.sent (subst (λ (x : LaneRow). RowKeeps (caught_in x.ended) kept.sent x.store) was kept.keeps));
+            keeps = subst (λ (x : LaneRow). Keeps (IsUntorn s l) (caught_in x.ended) (kept.sent ++ behind.more) x.store) (sym row)
+                (behind.keeps durable kept.sent (subst (λ (x : LaneRow). Keeps (IsUntorn s l) (caught_in x.ended) kept.sent x.store) was kept.keeps));
             told =
                 settled-append l lines m.lines
                 ∙ (λ i. kept.told i ++ more i)
@@ -416,9 +419,10 @@ module _ (s : ScenarioData) (l : ℕ) (on : durable_of s l ≡ true) where
       by_lane : (l ≡ k) ⊎ (l ≢ k) → IsKept s after (lines ++ m.lines) l []
       by_lane (inl same) = own same
       by_lane (inr other) =
+          let behind : Behind ⊥ p part (λ never. absurd never) m.part m.lines = behind_where ⊥ (λ never. absurd never) in
           quiet w after lines m.lines [] [] (behind.others l (λ same. other (same ∙ lane))) refl behind.stays
           (λ sent keeps.
-          subst (λ (x : LaneRow). RowKeeps (caught_in x.ended) sent x.store) (sym (get_or-set_other w.lanes k l m.part.lane new_lane other)) keeps) kept
+          subst (λ (x : LaneRow). Keeps (IsUntorn s l) (caught_in x.ended) sent x.store) (sym (get_or-set_other w.lanes k l m.part.lane new_lane other)) keeps) kept
 
 -- a step of an earlier lane comes before this one's
 steps_before : (s : ScenarioData) (w : World) (m k : ℕ) (at : Settlement) → StepAt s w k m at → (l : ℕ) → m < l → m < length w.lanes → k < before_lane s w l
@@ -518,8 +522,8 @@ module _ (s : ScenarioData) (l : ℕ) (on : durable_of s l ≡ true) (some : 1 �
   opens_kept w lines k choices here kept =
       quiet s l on w after lines [] (extra s w l (Settling k)) (extra s after l (Settling (k + 1))) refl (none_now ∙ sym none_next) (nothing_came w.messages)
       (λ sent keeps.
-      subst (λ (x : LaneRow). RowKeeps (caught_in x.ended) sent x.store) (sym own)
-      (store_keeps.opens (caught_in (lane_at w l).ended) sent (lane_at w l).store (choice_in choices 0) keeps)) kept
+      subst (λ (x : LaneRow). Keeps (IsUntorn s l) (caught_in x.ended) sent x.store) (sym own)
+      (keeps_opened (IsUntorn s l) (caught_in (lane_at w l).ended) sent (lane_at w l).store (choice_in choices 0) keeps)) kept
     where
       row : LaneRow
       row = with_store (opened_to_settle (lane_at w l).store (choice_in choices 0)) (lane_at w l)
@@ -618,8 +622,8 @@ module _ (s : ScenarioData) (l : ℕ) (on : durable_of s l ≡ true) (some : 1 �
       by : (b : Bool) → drops ≡ b → IsKept s after (lines ++ settle_lines (dialect_of s l) l message reply) l (extra s after l (Settling (k + 1)))
       by false is = record {
         sent = kept.sent;
-        keeps = subst (λ (x : LaneRow). RowKeeps (caught_in x.ended) kept.sent x.store) (sym own)
-            (subst (λ (c : Bool). RowKeeps (caught_in (lane_at w l).ended) kept.sent (settled_store c (lane_at w l).store)) (sym is) kept.keeps);
+        keeps = subst (λ (x : LaneRow). Keeps (IsUntorn s l) (caught_in x.ended) kept.sent x.store) (sym own)
+            (subst (λ (c : Bool). Keeps (IsUntorn s l) (caught_in (lane_at w l).ended) kept.sent (settled_store c (lane_at w l).store)) (sym is) kept.keeps);
         told = one_more_told ∙ ap (λ (xs : List (List ℕ)). map call (flat_map (replicate s.copies) kept.sent ++ xs)) (sym next);
         came = in_messages;
         arrived = subst (λ (xs : List (List ℕ)). AreAmong (flat_map (replicate s.copies) kept.sent ++ xs) after.messages) (sym next) one_more_came;
@@ -640,10 +644,10 @@ module _ (s : ScenarioData) (l : ℕ) (on : durable_of s l ≡ true) (some : 1 �
               ∙ ap (λ n. replicate n message) count
       by true is = record {
         sent = kept.sent ++ message ∷ [];
-        keeps = subst (λ (x : LaneRow). RowKeeps (caught_in x.ended) (kept.sent ++ message ∷ []) x.store) (sym own)
-            (subst (λ (c : Bool). RowKeeps (caught_in (lane_at w l).ended) (kept.sent ++ message ∷ []) (settled_store c (lane_at w l).store)) (sym is)
-            (store_keeps.drops (caught_in (lane_at w l).ended) kept.sent (lane_at w l).store None message (drop (sends.place / s.copies + 1) reached.found)
-            reached.none list_is kept.keeps));
+        keeps = subst (λ (x : LaneRow). Keeps (IsUntorn s l) (caught_in x.ended) (kept.sent ++ message ∷ []) x.store) (sym own)
+            (subst (λ (c : Bool). Keeps (IsUntorn s l) (caught_in (lane_at w l).ended) (kept.sent ++ message ∷ []) (settled_store c (lane_at w l).store)) (sym is)
+            (keeps_dropped (IsUntorn s l) (caught_in (lane_at w l).ended) kept.sent (lane_at w l).store None message (drop (sends.place / s.copies + 1) reached.found)
+            (λ untorn. refl) reached.none list_is kept.keeps));
         told =
             one_more_told
             ∙ ap (λ n. map call (flat_map (replicate s.copies) kept.sent ++ replicate n message)) whole
@@ -691,7 +695,7 @@ module _ (s : ScenarioData) (l : ℕ) (on : durable_of s l ≡ true) (some : 1 �
             (extra s (settles s w choices (Some (Opens m))).world l (Settling (k + 1))) refl
             (other_step w (settles s w choices (Some (Opens m))).world k (Opens m) found (λ e. differs (e ∙ sym lane)) sound through next row)
             (nothing_came w.messages)
-            (λ sent keeps. subst (λ (x : LaneRow). RowKeeps (caught_in x.ended) sent x.store) (sym row) keeps) kept)
+            (λ sent keeps. subst (λ (x : LaneRow). Keeps (IsUntorn s l) (caught_in x.ended) sent x.store) (sym row) keeps) kept)
       ]
   settle_kept w lines k choices (Sends m message drops) here sound through next kept =
       elim (cases_eq l m) [
@@ -710,7 +714,7 @@ module _ (s : ScenarioData) (l : ℕ) (on : durable_of s l ≡ true) (some : 1 �
             (other_settle (dialect_of s m) l m differs message (host_reply s.issuer s.accounts w.messages message))
             (other_step w (settles s w choices (Some (Sends m message drops))).world k (Sends m message drops) found (λ e. differs (e ∙ sym lane)) sound through next row)
             (message ∷ [], refl)
-            (λ sent keeps. subst (λ (x : LaneRow). RowKeeps (caught_in x.ended) sent x.store) (sym row) keeps) kept)
+            (λ sent keeps. subst (λ (x : LaneRow). Keeps (IsUntorn s l) (caught_in x.ended) sent x.store) (sym row) keeps) kept)
       ]
 
   -- a check of a card
@@ -729,7 +733,7 @@ module _ (s : ScenarioData) (l : ℕ) (on : durable_of s l ≡ true) (some : 1 �
   unfolding all_settled_told caught_in
   first_kept = record {
     sent = [];
-    keeps = subst (λ (row : LaneRow). RowKeeps (caught_in row.ended) [] row.store) (sym (get_or-map_const s.lanes l new_lane)) store_keeps.begins;
+    keeps = subst (λ (row : LaneRow). Keeps (IsUntorn s l) (caught_in row.ended) [] row.store) (sym (get_or-map_const s.lanes l new_lane)) (keeps_begun (IsUntorn s l));
     told = refl;
     came = All-nil (Contains (first_world s).messages);
     arrived = none_came;
@@ -776,7 +780,7 @@ module _ (s : ScenarioData) (l : ℕ) (on : durable_of s l ≡ true) (some : 1 �
       (quiet s l on v (happens s v (Audit k) c).world ls (happens s v (Audit k) c).lines [] [] (check_untold v c (slice_get (checks s) k)) refl
       (check_stays v c (slice_get (checks s) k))
       (λ sent keeps.
-      subst (λ (rows : List LaneRow). RowKeeps (caught_in (get_or rows l new_lane).ended) sent (get_or rows l new_lane).store)
+      subst (λ (rows : List LaneRow). Keeps (IsUntorn s l) (caught_in (get_or rows l new_lane).ended) sent (get_or rows l new_lane).store)
       (sym (audit_lanes v c (slice_get (checks s) k))) keeps)
       (run_kept _ _ _ ls v before))
   run_kept _ _ _ ls w (finished before past) = run_kept _ _ _ ls w before
@@ -804,7 +808,7 @@ captures_sent s lines w l some on run =
     let emptied : IsEmptied (lane_at w l).store = comes s Finished run.count run.choices run.reported w some run.reached l on in
     record {
       sent = kept.sent;
-      sends = store_keeps.ends (caught_in (lane_at w l).ended) kept.sent (lane_at w l).store emptied.none emptied.empty kept.keeps;
+      sends = store_keeps.ends (caught_in (lane_at w l).ended) kept.sent (lane_at w l).store emptied.none emptied.empty kept.keeps.0;
       told =
           ap (λ (xs : List Line). all_settled_told l xs) run.whole
           ∙ settled-append l run.reported (closing s w)
@@ -814,6 +818,8 @@ captures_sent s lines w l some on run =
           ∙ ap (map (call_in (dialect_of s l))) (append-nil (flat_map (replicate s.copies) kept.sent));
       arrived =
           subst (λ (xs : List (List ℕ)). AreAmong xs w.messages) (append-nil (flat_map (replicate s.copies) kept.sent)) kept.arrived;
+      exact = λ untorn.
+          sym ((kept.keeps.1 untorn).1 ∙ ap (λ (xs : List (List ℕ)). kept.sent ++ xs) emptied.empty ∙ append-nil kept.sent);
       delivered =
           All-weaker (Contains w.messages) (IsDelivered s.issuer s.accounts w.messages)
           (λ message there. delivered_at s.issuer s.accounts w.messages message there.0 (found_at w.messages there.0 message there.1 (sym there.2))) kept.sent
