@@ -79,8 +79,9 @@ pub data AreAmong : List (List ℕ) → List (List ℕ) → Type 0 where
 abbrev pub IsUntorn : ScenarioData → ℕ → Type 0
 IsUntorn s l = (number : ℕ) (p : Payment) → payment_in s l number ≡ Some p → p.planned.terminal_tear ≡ None
 
--- each capture of a purchase that wasn't lost was sent whole, in the order of the purchases, each copy; that of a lost purchase
--- whole or never; one may be sent again, as its drop may be lost. What was sent came to the host, all its copies, in this order. A lane without a tear sends each capture once.
+-- each capture of a purchase that wasn't lost was sent whole, in the order of the purchases, each copy; that of a
+-- lost purchase whole or never; one may be sent again, as its drop may be lost. What was sent came to the host, all
+-- its copies, in this order. A lane without a tear sends each capture once.
 pub record AreSent (s : ScenarioData) (lines : List Line) (w : World) (l : ℕ) : Type 0 where
   pub sent : List (List ℕ)
   pub sends : Sends (caught_in (lane_at w l).ended) sent
