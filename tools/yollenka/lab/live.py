@@ -97,6 +97,12 @@ def with_answers(case):
     return case.scenario | {"card": [canned]}
 
 
+def pull_line(tear):
+    """The line that has a card pulled out where a purchase's tear says it."""
+    at = tear["at"] if tear["at"] == "release" else f"{tear['at']} {tear['write']}"
+    return f"pull {tear['commit']} {at}"
+
+
 class ProgramCard:
     """The proved card of a scenario, by the lines of its program."""
 
@@ -106,8 +112,7 @@ class ProgramCard:
     def power_up(self, tear):
         """Turns the card on, with a plan to pull it out."""
         if tear:
-            at = tear["at"] if tear["at"] == "release" else f"{tear['at']} {tear['write']}"
-            self.lines.ask(f"pull {tear['commit']} {at}")
+            self.lines.ask(pull_line(tear))
         self.is_on = not self.lines.ask("power").endswith("torn")
 
     def answer(self, said):

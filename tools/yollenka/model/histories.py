@@ -56,11 +56,11 @@ class HostAtLines:
 class Histories:
     """Draws an issuer's document and the messages that it gets, as the model answers them."""
 
-    def __init__(self, seed):
+    def __init__(self, seed, accounts=None):
         self.draw = Draw(seed)
         self.one_of, self.below, self.now = self.draw.one_of, self.draw.below, self.draw.now
         self.spoiler = Spoiler(self.draw)
-        self.draw.pans = pans = [self.draw.pan() for _ in range(self.one_of([1, 1, 2, 3]))]
+        self.draw.pans = pans = [self.draw.pan() for _ in range(accounts or self.one_of([1, 1, 2, 3]))]
         accounts = {pan: self.draw.account(pan, 2500) for pan in pans}
         self.text = document({"issuer": ISSUER, "account": list(accounts.values())})
         self.host = HostAtLines(self.text)
@@ -146,19 +146,22 @@ class Histories:
         inner = self.one_of([self.spoiler.body(held), *others])
         return data[:begin] + b"%04d" % len(inner) + inner
 
+    def drawn(self, what, earlier):
+        """A message as one object: by a number one that is like an earlier one, bytes that are none, or a new one."""
+        if what < 9 and earlier:
+            return self.another(self.one_of(earlier))
+        if what == 9:
+            return self.draw.octets(self.one_of([1, 2, 3, 8, 40]))
+        kind = self.one_of(KINDS)
+        return written(kind, self.fields(kind))
+
     def message(self):
         """The next message, and whether it is in the style of ISO 8583."""
         earlier = [data for data, is_iso in self.sent if not is_iso]
         what = self.below(20)
         if what < 4 and self.sent:
             return self.one_of(self.sent)
-        if what < 9 and earlier:
-            data = self.another(self.one_of(earlier))
-        elif what == 9:
-            data = self.draw.octets(self.one_of([1, 2, 3, 8, 40]))
-        else:
-            kind = self.one_of(KINDS)
-            data = written(kind, self.fields(kind))
+        data = self.drawn(what, earlier)
         spelled = self.in_fields(data) if self.now(2, 5) else None
         return (data, False) if spelled is None else (spelled, True)
 
@@ -167,9 +170,9 @@ class Histories:
         self.lines.append(line)
         self.answers.append(self.host.answer(line))
 
-    def talk(self):
+    def talk(self, most=MOST):
         """So many messages, with what is asked behind them."""
-        for _ in range(MOST):
+        for _ in range(most):
             data, is_iso = self.message()
             self.sent.append((data, is_iso))
             self.say(f"{'iso ' * is_iso}> {data.hex()}")
@@ -179,6 +182,34 @@ class Histories:
         for pan in self.issuer.accounts:
             self.say(f"balance {pan}")
         return self
+
+
+def is_message(data):
+    """Whether bytes are a terminal's message."""
+    try:
+        return bool(Message(data))
+    except Unreadable:
+        return False
+
+
+class InOneDialect(Histories):
+    """Histories of a host that speaks one dialect, with so many accounts."""
+
+    def __init__(self, seed, is_iso, accounts):
+        super().__init__(seed, accounts)
+        self.is_iso, self.earlier = is_iso, []
+
+    def message(self):
+        """The next message."""
+        what = self.below(20)
+        if what < 4 and self.sent:
+            return self.one_of(self.sent)
+        data = self.drawn(what, self.earlier)
+        spelled = self.in_fields(data) if self.is_iso else data
+        if not data or spelled is None and is_message(data):
+            return self.message()
+        self.earlier += [data] if is_message(data) else []
+        return spelled or data, self.is_iso
 
 
 def histories(seed, number):

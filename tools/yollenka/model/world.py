@@ -89,7 +89,7 @@ class World:
             for message in lane.kept():
                 self.settle(lane, message)
         for name, card in self.cards.items():
-            if isinstance(card, Card):
+            if not isinstance(card, Canned):
                 self.audit(name, card)
         self.lines += [f"balance {pan} {self.issuer.balance(pan)}" for pan in self.issuer.accounts]
         return [*self.lines, f"done {self.ended}"]
@@ -157,11 +157,15 @@ class World:
         self.lines.append(f"L{lane.number} end {number} lost")
         self.ended += 1
 
+    def terminal(self, lane, purchase):
+        """The terminal of a lane's purchase."""
+        return Terminal(lane.settings, purchase, lane.approved)
+
     def begin(self, lane):
         """Powers the card up."""
         _, purchase = lane.left[0]
         lane.card, card = purchase["card"], self.cards[purchase["card"]]
-        lane.terminal = Terminal(lane.settings, purchase, lane.approved)
+        lane.terminal = self.terminal(lane, purchase)
         lane.course, head = lane.terminal.run(), f"L{lane.number} power {lane.card}"
         lane.asked = next(lane.course)
         try:
