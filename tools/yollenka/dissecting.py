@@ -11,6 +11,7 @@ from pathlib import Path
 from xml.etree import ElementTree
 
 from yollenka.faults import Fault
+from yollenka.pcap import HEAD, OWN_PORT, record, segment
 
 # The lengths of the fields that have a fixed one.
 LENGTHS = {3: 6, 4: 12, 11: 6, 37: 12, 39: 2, 41: 8, 49: 3, 52: 8}
@@ -27,22 +28,11 @@ OPTIONS = [
 MISSING = "tshark isn't installed (Debian: apt-get install tshark)"
 
 
-def segment(number, message):
-    """An IPv4 packet with one TCP segment to the port: the length in two bytes, low byte first, then the message."""
-    data = struct.pack("<H", len(message)) + message
-    tcp = struct.pack(">HHIIBBHHH", 40000 + number % 20000, PORT, 1, 1, 0x50, 0x18, 8192, 0, 0)
-    total = 20 + len(tcp) + len(data)
-    ip = struct.pack(">BBHHHBBHII", 0x45, 0, total, number & 0xFFFF, 0, 64, 6, 0, 0x7F000001, 0x7F000002)
-    return ip + tcp + data
-
-
 def capture(messages):
-    """A capture of raw IPv4 packets, one a message, as a file of libpcap."""
-    parts = [struct.pack("<IHHiIII", 0xA1B2C3D4, 2, 4, 0, 0, 65535, 228)]
-    for number, message in enumerate(messages):
-        packet = segment(number, message)
-        parts.append(struct.pack("<IIII", number, 0, len(packet), len(packet)) + packet)
-    return b"".join(parts)
+    """A capture with one segment a message: its length in two bytes, low byte first, then the message."""
+    return HEAD + b"".join(
+        record(number, segment(number, (OWN_PORT + number % 20000, PORT), (1, 1), struct.pack("<H", len(message)) + message))
+        for number, message in enumerate(messages))
 
 
 def fields_of(packet):
