@@ -48,6 +48,23 @@ def document(scenario):
     return "".join(pair(*one) + "\n" for one in scenario.items()).encode()
 
 
+def in_tables(table, path=""):
+    """A table as TOML with a head for each table in it, its plain keys first."""
+    plain = [pair(*one) for one in table.items() if not is_table(one[1])]
+    parts = ["\n".join(plain)] if plain else []
+    for key, value in table.items():
+        for one in (value if isinstance(value, list) else [value]) if is_table(value) else []:
+            head = f"[[{path}{key}]]" if isinstance(value, list) else f"[{path}{key}]"
+            body = in_tables(one, f"{path}{key}.")
+            parts.append(f"{head}\n{body}")
+    return "\n\n".join(parts)
+
+
+def is_table(value):
+    """Whether a value is a table or an array of tables."""
+    return isinstance(value, dict) or isinstance(value, list) and value != [] and all(isinstance(one, dict) for one in value)
+
+
 def output(program, word, text):
     """What the program prints for this document (bytes), and its status."""
     ended = subprocess.run([program, word], input=text, capture_output=True, timeout=SECONDS)
