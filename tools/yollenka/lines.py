@@ -2,6 +2,7 @@
 import subprocess
 import tomllib
 
+from yollenka.builds import is_known
 from yollenka.faults import Fault
 from yollenka.programs import Builder, say
 from yollenka.scenarios import document
@@ -46,6 +47,8 @@ class Lines:
 
 def program(name):
     """The path of a crate's program, looked up once: the proved one, or a trial build, which is told on standard error."""
+    if name not in FOUND and not is_known(name):
+        raise Fault(f"there is no program {name} here")
     if name not in FOUND:
         FOUND[name], is_proved = Builder(name, say).program()
         if not is_proved:

@@ -23,7 +23,8 @@ COMMANDS = {
     "show": "a scenario's card in words",
     "card": "a card, by logs of what it answered, beside the proved card of its image",
     "card-of": "a card in words, as it was read",
-    "serve": "the proved card or the proved terminal, at a reader or on a socket",
+    "host": "a host of your own over TCP: a scenario at it, or its replies beside those of the proved one",
+    "serve": "the proved card, host or terminal, at a reader, on a socket or over TCP",
     "page": "a report or a log as one page to print, without scripts",
     "check": "what is wrong with a scenario's cards before anything runs",
 }

@@ -1,14 +1,12 @@
 """The proved card in a virtual smart-card reader or on a socket, and the proved terminal at a card in a reader."""
 import re
 import socket
-import subprocess
 import sys
 import time
 
 from yollenka.faults import Fault
-from yollenka.lines import begin, card_document, program, without
+from yollenka.lines import begin, card_document
 from yollenka.readers import connected
-from yollenka.scenarios import document
 
 # The card's ATR: T=1 alone, six historical bytes and the check byte.
 ATR = bytes.fromhex("3B8601454D5652554E90")
@@ -177,30 +175,18 @@ def on_a_socket(card, host, port, seconds):
 
 # The terminal.
 
-def host_reply(scenario, lane, purchase, answers):
-    """The reply of the scenario's issuer: that of `emvrun replay` where a card of canned answers gave just these."""
-    terminal = scenario["lane"][lane]
-    one = {**without(terminal["purchase"][purchase - 1], ("tear", "terminal_tear")), "card": "c1"}
-    tried = {
-        "issuer": scenario["issuer"], "account": scenario.get("account", []), "card": [{"name": "c1", "canned": answers}],
-        "lane": [{**without(terminal, ("dialect", "durable")), "purchase": [one]}],
-    }
-    report = subprocess.run([program("emvrun"), "replay"], input=document(tried), capture_output=True).stdout.decode()
-    return next((line[3:] for line in report.splitlines() if line.startswith("L0 host < ")), "host < none")
-
-
 def at_a_card(terminal, reader, reply, tell):
-    """Holds the terminal's dialogue with the card in a reader; `reply` gives the line of the issuer's reply, by the card's
-    answers so far, and `tell` takes each line. Gives the terminal's last line."""
-    answers = []
+    """Holds the terminal's dialogue with the card in a reader; `reply` gives the issuer's reply to a message, or None, and `tell`
+    takes each line. Gives the terminal's last line."""
     while (line := terminal.hear()).startswith(("> ", "host > ")):
         tell(line)
+        said = bytes.fromhex(line.rpartition(" ")[2])
         if line.startswith("host"):
-            back = reply(answers)
+            got = reply(said)
+            back = f"host < {got.hex() if got is not None else 'none'}"
         else:
-            got = reader.transmit(bytes.fromhex(line[2:]))
+            got = reader.transmit(said)
             back = f"< {got.hex() if got is not None else 'gone'}"
-            answers.append("" if got is None else got.hex())
         tell(back)
         terminal.say(back)
     tell(line)

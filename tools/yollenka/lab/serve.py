@@ -1,19 +1,28 @@
 """`lab serve`: the proved card and the proved terminal for a partner of another make."""
 import os
+from contextlib import closing, contextmanager
 
 from yollenka.commandline import counted, positive
+from yollenka.dissecting import PORT as HOST_PORT
 from yollenka.faults import Fault
+from yollenka.framing import FRAMINGS, WORDS
 from yollenka.lab import FAILED, PASSED
 from yollenka.lab.at_reader import Pcsc, recorder
-from yollenka.lab.bridges import HERE, Card, at_a_card, card_of, host_reply, in_a_reader, on_a_socket
+from yollenka.lab.bridges import HERE, Card, at_a_card, card_of, in_a_reader, on_a_socket
+from yollenka.lab.host_dialect import DIALECTS, ISO, OBJECT, as_object, delivered, in_dialect
+from yollenka.lab.host_peer import OwnHost, ProvedHost
+from yollenka.lab.host_served import Desk, State, serve
 from yollenka.lines import Lines, begin, terminal_document
 from yollenka.readers import PORT
-from yollenka.scenarios import read_document
+from yollenka.scenarios import document, read_document
 
 TEXT = """\
-The proved card of a scenario in the virtual reader of this machine, or on a socket; or its proved terminal at a card in a
-reader. docs/use/reader.md has their lines, and what one has to know of readers."""
+The proved card of a scenario in the virtual reader of this machine, or on a socket; its proved terminal at a card in a
+reader; or its proved host over TCP. docs/use/reader.md has their lines, and what one has to know of readers;
+docs/use/host-of-ones-own.md is about the host."""
 IDLE = 60.0
+# `--host` of a terminal without an address.
+OWN_ISSUER = ()
 
 
 def address(text):
@@ -42,28 +51,60 @@ def serve_card(options):
     return PASSED
 
 
+@contextmanager
+def desk_of(options, record, dialect):
+    """The proved host of a scenario, with the file that keeps its messages, if there is one."""
+    table = read_document(options.scenario)
+    accounts = document({key: table[key] for key in ("issuer", "account") if key in table})
+    with closing(ProvedHost(accounts, options.scenario)) as proved:
+        desk = Desk(proved, State(options.state, accounts) if options.state else None, record, dialect)
+        if options.state:
+            desk.remember(options.state)
+        yield desk
+
+
+def serve_host(options):
+    """Serves the host until it is ended."""
+    with desk_of(options, recorder(options.log), options.dialect) as desk:
+        serve(desk, options.listen, FRAMINGS[options.framing], options.idle)
+    return PASSED
+
+
+@contextmanager
+def issuer_of(options, is_iso):
+    """What gives the reply to a message of the terminal: nobody, the scenario's issuer, or a host of one's own."""
+    if options.host is None:
+        yield lambda message: None
+    elif options.host == OWN_ISSUER:
+        with desk_of(options, lambda _: None, OBJECT) as desk:
+            yield desk.reply
+    else:
+        with closing(OwnHost(options.host, options.framing)) as own:
+            own.connect()
+            yield lambda message: as_object(message, own.ask(in_dialect(message, is_iso)), is_iso)
+
+
 def serve_terminal(options):
     """Holds a purchase's dialogue with the card in a reader; each line of it is printed, as the entries of a trace."""
     scenario = read_document(options.scenario)
     try:
         text = terminal_document(scenario, options.lane, options.purchase)
+        lane = scenario["lane"][options.lane]
     except (KeyError, IndexError, TypeError):
         raise Fault(f"{options.scenario}: there is no purchase {options.purchase} of lane {options.lane}") from None
     process, terminal = begin("terminal_at_reader", [], text)
     terminal.require_taken(options.scenario)
     reader, record = Pcsc(options.reader, options.wait), recorder(options.log)
+    link = lane["purchase"][options.purchase - 1].get("link", "ok")
 
     def tell(line):
         """Takes a line of the dialogue."""
         record(line)
         print(line, flush=True)
 
-    def reply(answers):
-        """The issuer's reply to the last message."""
-        return host_reply(scenario, options.lane, options.purchase, answers) if options.host else "host < none"
-
-    reader.power()
-    last = at_a_card(terminal, reader, reply, tell)
+    with issuer_of(options, lane.get("dialect") == ISO) as reply:
+        reader.power()
+        last = at_a_card(terminal, reader, lambda message: delivered(link, lambda: reply(message)), tell)
     reader.close()
     process.stdin.close()
     process.wait()
@@ -91,6 +132,21 @@ def card_arguments(parser):
     parser.set_defaults(serve=serve_card)
 
 
+def host_arguments(parser):
+    """The words of `lab serve host`."""
+    parser.add_argument("scenario", metavar="SCENARIO.toml", help="whose issuer and accounts the host has")
+    parser.add_argument("--listen", type=address, default=(HERE, HOST_PORT), metavar="[HOST:]PORT",
+                        help="listens here; without HOST on this machine alone (8583)")
+    parser.add_argument("--framing", choices=FRAMINGS, default="2", metavar="FRAMING", help="how a message's length is written (2)")
+    parser.add_argument("--dialect", choices=DIALECTS, help="takes messages of this dialect alone; without it a message that begins "
+                                                            "with the digit 0 is in the style of ISO 8583")
+    parser.add_argument("--state", metavar="F", help="keeps each message in this file before its reply goes out, and begins with "
+                                                     "what is in it")
+    parser.add_argument("--idle", type=float, default=IDLE, metavar="N", help="a peer that says nothing for N seconds is dropped (60)")
+    parser.add_argument("--log", metavar="F", help="writes each message, its reply and the reason to this file")
+    parser.set_defaults(serve=serve_host)
+
+
 def terminal_arguments(parser):
     """The words of `lab serve terminal`."""
     parser.add_argument("scenario", metavar="SCENARIO.toml")
@@ -98,7 +154,11 @@ def terminal_arguments(parser):
     parser.add_argument("purchase", metavar="PURCHASE", nargs="?", type=positive, default=1, help="from 1")
     parser.add_argument("--reader", metavar="NAME", default="", help="the first reader whose name has NAME in it")
     parser.add_argument("--wait", type=float, default=10, metavar="N", help="waits so many seconds for a reader and its card (10)")
-    parser.add_argument("--host", action="store_true", help="the scenario's issuer replies, by the accounts of the document")
+    parser.add_argument("--host", type=address, nargs="?", const=OWN_ISSUER, metavar="[HOST:]PORT",
+                        help="the host that listens here replies; without an address the scenario's issuer")
+    parser.add_argument("--framing", choices=FRAMINGS, default="2", metavar="FRAMING",
+                        help="with --host: how a message's length is written (2)")
+    parser.add_argument("--state", metavar="F", help="with the scenario's issuer: keeps its messages in this file, for later purchases")
     parser.add_argument("--log", metavar="F", help="writes each line to this file, too")
     parser.set_defaults(serve=serve_terminal)
 
@@ -108,6 +168,7 @@ def arguments(parser):
     kinds = parser.add_subparsers(required=True, metavar="WHAT")
     card_arguments(kinds.add_parser("card", help="a scenario's card"))
     terminal_arguments(kinds.add_parser("terminal", help="a scenario's terminal"))
+    host_arguments(kinds.add_parser("host", help="a scenario's host", epilog=WORDS))
     kinds.add_parser("try", help="tries both in a virtual reader of this machine").set_defaults(serve=serve_try)
 
 
