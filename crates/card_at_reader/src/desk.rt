@@ -21,7 +21,7 @@ use card_counters::shown_all;
 use card_files::Image;
 use card_state::CardState;
 use emv_ports::{Gone, Pages, Tear};
-use line_talk::{LineText, Onward, Party};
+use line_talk::{LineText, Onward, Party, put_line};
 use report_text::pieces::{append, hex_or_dash};
 use report_text::{Line, Text, write_line};
 use std::alloc::{AllocError, Global};
@@ -259,12 +259,12 @@ impl<P: Pages> Party for Desk<'_, P> {
         &mut self,
         alloc: Global,
         line: &[u8],
-        text: &mut LineText,
+        text: &mut Vec<u8>,
     ) -> Result<Onward, AllocError> {
-        match answer_line(alloc, self, line, text) {
-            Ok(()) => Ok(Onward::Rests),
-            Err(AllocError) => Err(AllocError),
-        }
+        let mut told = LineText::new();
+        answer_line(alloc, self, line, &mut told)?;
+        put_line(text, told.as_slice())?;
+        Ok(Onward::Rests)
     }
 
     ghost told = { λ desk turns stands. (stands.at, stands.talked) };

@@ -13,6 +13,6 @@ pub mod talk;
 pub use document::{Preamble, read_preamble};
 pub use line::{Came, LineText, read_line};
 pub use number::number_of;
-pub use party::{Onward, Party};
+pub use party::{Onward, Party, put_line};
 pub use status::Status;
 pub use talk::{answer_other, converse, refuse, write_last};

@@ -1,5 +1,5 @@
 //! Who answers the lines of a talk.
-ghost use Rattle.std.specs.Prelude.{◌≡◌, ◌≤◌, ◌++◌, ◌∷◌, [], List, IfOk, length};
+ghost use Rattle.std.specs.Prelude.{◌≡◌, ◌≤◌, ◌++◌, ◌∷◌, [], List, IfOk, OnOk, IsOk, length, vec_capacity};
 ghost use Rattle.line_talk.specs.Turns.{GoesOn, IsSameParty, Opening, Turn, may_end, onward_behind};
 
 use crate::line::LineText;
@@ -32,6 +32,15 @@ impl Onward {
     }
 }
 
+/// Puts one line into the text of an answer, in place of what that held. It takes memory only where there is no room.
+pub fn put_line(text: &mut Vec<u8>, line: &[u8]) -> Result<(), AllocError>
+    ensures put { OnOk result (text.new.items ≡ line.now) }
+    ensures room { length line.now ≤ vec_capacity text.old → IsOk result }
+{
+    text.clear();
+    text.extend_from_slice(line)
+}
+
 /// A card, a terminal or an issuer's host, which answers line by line.
 pub trait Party {
     /// What it says before the first line.
@@ -51,12 +60,12 @@ pub trait Party {
         ensures same { IsSameParty (opening self.old) (opening self.new) (talks self.old) (talks self.new) };
 
     /// Puts the answer to a line without its newline into `text` in place of what that held, or tells that there is no
-    /// memory. A line may follow what was said last.
+    /// memory. The answer may be several lines. A line may follow what was said last.
     fn answer(
         &mut self,
         alloc: Global,
         line: &[u8],
-        text: &mut LineText,
+        text: &mut Vec<u8>,
     ) -> Result<Onward, AllocError>
         requires short { length line.now ≤ 8191 }
         requires stands { (turns : List Turn) × stands self.old turns × GoesOn (onward_behind (opening self.old).onward turns) }

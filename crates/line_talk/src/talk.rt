@@ -69,7 +69,7 @@ fn answer<T: Party, K: Sink>(
     ensures source { (count : ℕ) → SourceStep count count result }
     ensures sink { SinkStep (K.faults sink.old) (K.faults sink.new) result }
 {
-    let mut text = LineText::new();
+    let mut text = Vec::new(alloc);
     match party.answer(alloc, line, &mut text) {
         Ok(onward) => match write_all(sink, text.as_slice()) {
             Ok(()) => Ok(onward),

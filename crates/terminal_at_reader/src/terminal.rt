@@ -4,13 +4,15 @@ ghost use Rattle.kernel.specs.Kernel.{KernelStands, outset_in, kernel_next};
 ghost use Rattle.kernel.specs.Reply.{Reply};
 ghost use Rattle.kernel.specs.declared.kernel.Next.TheVariants as next;
 ghost use Rattle.line_talk.specs.Talk.{other_line};
+ghost use Rattle.line_talk.specs.Turns.{GoesOn, Turn, onward_behind};
 ghost use Rattle.line_talk.specs.declared.party.Onward.TheVariants as onward;
+ghost use Rattle.terminal_state.specs.Terminal.{Outset};
 ghost use Rattle.terminal_at_reader.specs.Talk.{HasAskedSo, IsTerminalTalk, asked_line, onward_at, terminal_opening};
 
 use crate::asking::{tell_ask, tell_end};
 use emv_dict::{Purchase, Settings};
 use kernel::{Kernel, Next};
-use line_talk::{LineText, Onward, Party};
+use line_talk::{LineText, Onward, Party, put_line};
 use report_text::pieces::append;
 use std::alloc::{AllocError, Global};
 use trace_check::entry::entry_of;
@@ -50,6 +52,30 @@ fn tell_other(text: &mut LineText) -> Onward
     Onward::Stuck
 }
 
+/// Answers a line: a reply that the terminal awaits by what it asks next.
+fn answer_line(
+    alloc: Global,
+    kernel: &mut Kernel<'_>,
+    line: &[u8],
+    text: &mut LineText,
+) -> Result<Onward, AllocError>
+    requires stands { (outset : Outset) × (turns : List Turn) × HasAskedSo outset kernel.old turns × GoesOn (onward_behind (onward_at outset []) turns) }
+    ensures turn { IfOk result (λ onward. (outset : Outset) (turns : List Turn) → HasAskedSo outset kernel.old turns → GoesOn (onward_behind (onward_at outset []) turns)
+        → HasAskedSo outset kernel.new (turns ++ record { line = line.now; answer = text.new.items; onward = onward } ∷ [])) }
+{
+    match entry_of(alloc, line) {
+        Ok(Some(entry)) => {
+            if take(kernel, &entry) {
+                Ok(tell(kernel, text))
+            } else {
+                Ok(tell_other(text))
+            }
+        }
+        Ok(None) => Ok(tell_other(text)),
+        Err(AllocError) => Err(AllocError),
+    }
+}
+
 impl Party for Terminal<'_> {
     ghost opening = { λ terminal. terminal_opening (record { settings = terminal.settings.now; purchase = terminal.purchase.now }) };
 
@@ -65,19 +91,12 @@ impl Party for Terminal<'_> {
         &mut self,
         alloc: Global,
         line: &[u8],
-        text: &mut LineText,
+        text: &mut Vec<u8>,
     ) -> Result<Onward, AllocError> {
-        match entry_of(alloc, line) {
-            Ok(Some(entry)) => {
-                if take(&mut self.kernel, &entry) {
-                    Ok(tell(&mut self.kernel, text))
-                } else {
-                    Ok(tell_other(text))
-                }
-            }
-            Ok(None) => Ok(tell_other(text)),
-            Err(AllocError) => Err(AllocError),
-        }
+        let mut told = LineText::new();
+        let onward = answer_line(alloc, &mut self.kernel, line, &mut told)?;
+        put_line(text, told.as_slice())?;
+        Ok(onward)
     }
 
     ghost told = { λ terminal turns stands. (stands.replies, stands.talked) };

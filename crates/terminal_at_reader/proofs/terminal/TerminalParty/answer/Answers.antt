@@ -1,37 +1,15 @@
-use Rattle.std.proofs.Common.{Bool, sym, subst, ◌∙◌}
-use Rattle.kernel.specs.Dialogue.{dialogue}
-use Rattle.kernel.specs.Kernel.{outset_in}
+use Rattle.std.proofs.Common.{◌∙◌, List, ℕ, [], ◌∷◌, ◌++◌, subst, sym}
+use Rattle.terminal_at_reader.specs.Talk.{HasAskedSo}
 use Rattle.terminal_state.specs.Terminal.{Outset}
-use Rattle.trace_check.specs.Dialogues.{is_awaited, reply_of_entry}
-use Rattle.trace_check.specs.Loop.{ReplyIsTaken}
-use Rattle.terminal_at_reader.proofs.Taking.{accepted, live_now, none_read, refused}
 use Rattle.terminal_at_reader.proofs.terminal.TerminalParty.answer.Goals as goal
 
-pub take-requires : goal.take-requires
-take-requires c =
-    let outset : Outset = record { settings = c.args.self.now.settings.now; purchase = c.args.self.now.purchase.now } in
-    (live_now outset c.args.self.now.kernel c.requires.stands.0 c.args.line.now c.requires.stands.1 c.requires.stands.2).fresh
+pub answer_line-requires : goal.answer_line-requires
+answer_line-requires c = (record { settings = c.args.self.now.settings.now; purchase = c.args.self.now.purchase.now }, c.requires.stands)
 
-pub returns-then-take-clause-turn : goal.returns-then-take-clause-turn
-returns-then-take-clause-turn c = λ turns has may.
+pub returns-clause-turn : goal.returns-clause-turn
+returns-clause-turn c = λ turns has may.
     let outset : Outset = record { settings = c.args.self.now.settings.now; purchase = c.args.self.now.purchase.now } in
-    accepted outset c.args.self.now.kernel turns c.args.line.now has may c.take.new.kernel c.in-Ok-Some.entry (sym c.in-Ok-Some.field-0-is ∙ c.in-Ok-Some.ensures)
-    c.take.ensures.outset c.take.ensures.fresh c.tell.new.kernel c.tell.new.text.items c.tell.result
-    (λ replies stands.
-    subst (λ (found : Bool). ReplyIsTaken (is_awaited (dialogue (outset_in c.args.self.now.kernel) replies).deed) c.take.new.kernel replies (reply_of_entry c.in-Ok-Some.entry) found)
-    c.if-take.true (c.take.ensures.taken replies stands)) c.tell.ensures.told c.tell.ensures.onward c.tell.ensures.live
-
-pub returns-in-Ok-Some-clause-turn : goal.returns-in-Ok-Some-clause-turn
-returns-in-Ok-Some-clause-turn c = λ turns has may.
-    let outset : Outset = record { settings = c.args.self.now.settings.now; purchase = c.args.self.now.purchase.now } in
-    refused outset c.args.self.now.kernel turns c.args.line.now has may c.take.new.kernel c.in-Ok-Some.entry (sym c.in-Ok-Some.field-0-is ∙ c.in-Ok-Some.ensures)
-    c.take.ensures.outset c.take.ensures.fresh c.tell_other.new.text.items c.tell_other.result
-    (λ replies stands.
-    subst (λ (found : Bool). ReplyIsTaken (is_awaited (dialogue (outset_in c.args.self.now.kernel) replies).deed) c.take.new.kernel replies (reply_of_entry c.in-Ok-Some.entry) found)
-    c.if-take.false (c.take.ensures.taken replies stands)) c.tell_other.ensures.told c.tell_other.ensures.stuck
-
-pub returns-in-Ok-None-clause-turn : goal.returns-in-Ok-None-clause-turn
-returns-in-Ok-None-clause-turn c = λ turns has may.
-    let outset : Outset = record { settings = c.args.self.now.settings.now; purchase = c.args.self.now.purchase.now } in
-    none_read outset c.args.self.now.kernel turns c.args.line.now has may c.args.self.now.kernel c.tell_other-in-Ok-None.new.text.items c.tell_other-in-Ok-None.result
-    (sym c.in-Ok-None.field-0-is ∙ c.in-Ok-None.ensures) c.tell_other-in-Ok-None.ensures.told c.tell_other-in-Ok-None.ensures.stuck
+    subst (λ (text : List ℕ). HasAskedSo outset c.answer_line-onward.new.kernel
+    (turns ++ record { line = c.args.line.now; answer = text; onward = c.in_ok-onward.onward } ∷ []))
+    (sym (c.in_ok-put_line.ensures.put ∙ c.as_slice.ensures.value))
+    (c.in_ok-onward.ensures.turn outset turns has may)
