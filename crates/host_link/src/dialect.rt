@@ -97,8 +97,8 @@ pub fn write_reply(iso: bool, message: &[u8], reply: &[u8], out: &mut Message)
     }
 }
 
-/// Takes a reply from the wire, in place of what `out` holds.
-pub(crate) fn take_reply(iso: bool, bytes: &[u8], out: &mut Message)
+/// Takes a reply from the wire, in place of what `out` holds. On an iso lane it has to be one in that style.
+pub fn take_reply(iso: bool, bytes: &[u8], out: &mut Message)
     requires fits { length bytes.now ≤ 2048 }
     requires read { iso ≡ true → IsOk (iso_reply_of bytes.now) }
     ensures { (reply : List ℕ) → CarriesReply iso bytes.now reply → out.new.items ≡ reply }

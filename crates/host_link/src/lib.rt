@@ -5,6 +5,6 @@ pub mod dialect;
 pub mod laws;
 mod link;
 
-pub use dialect::{Wire, write_call, write_reply};
+pub use dialect::{Wire, take_reply, write_call, write_reply};
 pub use laws::{messages_differ, replies_differ};
 pub use link::deliver;

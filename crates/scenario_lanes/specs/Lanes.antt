@@ -17,6 +17,7 @@ use Rattle.scenario_fields.specs.declared.fault.ScenarioFault.TheVariants.{BadVa
 use Rattle.scenario_fields.specs.declared.spot.Characters.TheVariants.{LetterOrDigit}
 use Rattle.scenario_lanes.specs.Plan.{LaneData, last_pages}
 use Rattle.scenario_lanes.specs.Purchases.{purchases_at, tears_tried}
+use Rattle.scenario_lanes.specs.declared.lane.LaneLimits.{LaneLimits}
 
 unfoldable pub aid_keys : List (List ℕ)
 aid_keys =
@@ -79,13 +80,13 @@ dialect_named path word =
     else if bytes_eq word (codes "iso") then Ok true
     else Err (BadValue path)
 
--- a trace's messages are in no dialect but the first
-abbrev pub dialect_in : LaneAt → List ℕ → Data → Result Bool ScenarioFault
-dialect_in (Numbered i) path d = str_of path d >>= dialect_named path
-dialect_in Only path d = Err (BadValue path)
+-- the dialect that a word names, where the lane may have one; the lane of a trace may not
+abbrev pub dialect_in : Bool → List ℕ → Data → Result Bool ScenarioFault
+dialect_in true path d = str_of path d >>= dialect_named path
+dialect_in false path d = Err (BadValue path)
 
-unfoldable pub dialect_or_tlv : LaneAt → (List ℕ → List ℕ) → Members → Result Bool ScenarioFault
-dialect_or_tlv at path ms = or_default false (dialect_in at (path (codes "dialect"))) (get_member (codes "dialect") ms)
+unfoldable pub dialect_or_tlv : Bool → (List ℕ → List ℕ) → Members → Result Bool ScenarioFault
+dialect_or_tlv allowed path ms = or_default false (dialect_in allowed (path (codes "dialect"))) (get_member (codes "dialect") ms)
 
 -- the store of lane `i` is on no card's pages
 unfoldable pub durable_on : ℕ → ℕ → List ℕ → Bool → Result Bool ScenarioFault
@@ -100,13 +101,13 @@ durable_in cards Only path d = Err (BadValue path)
 unfoldable pub durable_or_not : ℕ → LaneAt → (List ℕ → List ℕ) → Members → Result Bool ScenarioFault
 durable_or_not cards at path ms = or_default false (durable_in cards at (path (codes "durable"))) (get_member (codes "durable") ms)
 
--- a lane of `least` to `most` purchases
-unfoldable pub lane_of : (List ℕ → List ℕ) → LaneAt → ℕ → ℕ → List (List ℕ) → List ℕ → Members → Result LaneData ScenarioFault
-lane_of path at least most names pin_key ms = do
+-- a lane with so many purchases, and a dialect or none
+unfoldable pub lane_of : (List ℕ → List ℕ) → LaneAt → LaneLimits → List (List ℕ) → List ℕ → Members → Result LaneData ScenarioFault
+lane_of path at limits names pin_key ms = do
   settings ← settings_of path at pin_key ms
-  purchases ← purchases_at path at least most names ms
+  purchases ← purchases_at path at limits.least limits.most names ms
   pse ← flag_or false path (codes "pse") ms
-  iso ← dialect_or_tlv at path ms
+  iso ← dialect_or_tlv limits.dialect path ms
   durable ← durable_or_not (length names) at path ms
   _ ← tears_tried at durable purchases
   _ ← only path lane_keys ms
@@ -115,11 +116,15 @@ lane_of path at least most names pin_key ms = do
 -- lane `i`, where the lanes before it have `earlier` purchases: at most 10,000 in all lanes
 unfoldable pub lane_item : (List ℕ → List ℕ) → ℕ → ℕ → List (List ℕ) → List ℕ → Data → Result LaneData ScenarioFault
 lane_item path i earlier names pin_key d =
-    table_item path (codes "lane") i d >>= lane_of (in_lane (Numbered i)) (Numbered i) 0 (10000 - earlier) names pin_key
+    table_item path (codes "lane") i d >>= lane_of (in_lane (Numbered i)) (Numbered i) (record { least = 0; most = 10000 - earlier; dialect = true }) names pin_key
 
 -- the lane of a trace: with one purchase, whose card has a name and no index
 abbrev pub traced_lane : List ℕ → Members → Result LaneData ScenarioFault
-traced_lane pin_key ms = lane_of (in_lane Only) Only 1 1 [] pin_key ms
+traced_lane pin_key ms = lane_of (in_lane Only) Only (record { least = 1; most = 1; dialect = false }) [] pin_key ms
+
+-- the lane of a terminal that talks with others: with one or more purchases, and its dialect
+abbrev pub live_lane : ℕ → List ℕ → Members → Result LaneData ScenarioFault
+live_lane most pin_key ms = lane_of (in_lane Only) Only (record { least = 1; most = most; dialect = true }) [] pin_key ms
 
 -- the lanes from number `i` on
 abbrev pub lanes_from : (List ℕ → List ℕ) → ℕ → ℕ → List (List ℕ) → List ℕ → Items → Result (List LaneData) ScenarioFault

@@ -6,7 +6,7 @@ ghost use Rattle.toml.specs.View.{view, table_view, items_view};
 ghost use Rattle.scenario_fields.specs.Fault.{Gives};
 ghost use Rattle.scenario_fields.specs.Fields.{only, each};
 ghost use Rattle.scenario_fields.specs.TablePaths.{path, spot_path};
-ghost use Rattle.scenario_lanes.specs.Lanes.{aid_keys, aid_of, aid_item, aids_at, lane_keys, settings_of, dialect_named, dialect_in, dialect_or_tlv, durable_on, durable_in, durable_or_not, lane_of, traced_lane, lane_item, lanes_from, lanes_at};
+ghost use Rattle.scenario_lanes.specs.Lanes.{aid_keys, aid_of, aid_item, aids_at, lane_keys, settings_of, dialect_named, dialect_in, dialect_or_tlv, durable_on, durable_in, durable_or_not, lane_of, traced_lane, live_lane, lane_item, lanes_from, lanes_at};
 ghost use Rattle.scenario_lanes.specs.Plan.{IsLane, HasOwnPages, HaveRoom, last_pages, purchase_count};
 ghost use Rattle.scenario_fields.specs.declared.place.LaneAt.TheVariants.{Numbered};
 
@@ -172,24 +172,23 @@ fn dialect_named(spot: &Spot, word: &str) -> Result<bool, ScenarioFault>
     }
 }
 
-/// Whether messages go in the form of ISO 8583, by the value for a dialect. The messages of a trace
-/// don't.
-fn dialect_in(spot: &Spot, lane: LaneAt, value: &Value) -> Result<bool, ScenarioFault>
-    ensures { Gives (λ iso. iso) result (dialect_in lane (spot_path spot.now.place spot.now.key.now spot.now.index) (view value.now)) }
+/// Whether messages go in the form of ISO 8583, by the value for a dialect, where the lane may have one.
+fn dialect_in(spot: &Spot, allowed: bool, value: &Value) -> Result<bool, ScenarioFault>
+    ensures { Gives (λ iso. iso) result (dialect_in allowed (spot_path spot.now.place spot.now.key.now spot.now.index) (view value.now)) }
 {
-    match lane {
-        LaneAt::Numbered(_) => dialect_named(spot, spot.str_of(value)?),
-        LaneAt::Only => Err(spot.bad()),
+    if !allowed {
+        return Err(spot.bad());
     }
+    dialect_named(spot, spot.str_of(value)?)
 }
 
 /// Whether the messages of a lane go in the form of ISO 8583.
 #[tactic(auto, unfolding(crate::specs::Lanes::dialect_or_tlv))]
-fn dialect_or_tlv(fields: &Fields, lane: LaneAt) -> Result<bool, ScenarioFault>
-    ensures { Gives (λ iso. iso) result (dialect_or_tlv lane (path fields.now.place) (table_view fields.now.table.now)) }
+fn dialect_or_tlv(fields: &Fields, allowed: bool) -> Result<bool, ScenarioFault>
+    ensures { Gives (λ iso. iso) result (dialect_or_tlv allowed (path fields.now.place) (table_view fields.now.table.now)) }
 {
     match fields.optional("dialect") {
-        Some(value) => dialect_in(&fields.spot("dialect"), lane, value),
+        Some(value) => dialect_in(&fields.spot("dialect"), allowed, value),
         None => Ok(false),
     }
 }
@@ -231,27 +230,34 @@ fn durable_or_not(fields: &Fields, lane: LaneAt, cards: usize) -> Result<bool, S
     }
 }
 
-/// A lane of `least` to `most` purchases.
+/// What a lane may have: so many purchases, and a dialect or none.
+#[derive(Clone, Copy)]
+struct LaneLimits {
+    least: usize,
+    most: usize,
+    dialect: bool,
+}
+
+/// A lane within these limits.
 #[tactic(auto, unfolding(crate::specs::Lanes::lane_of))]
 fn lane_with(
     fields: &Fields,
     lane: LaneAt,
-    least: usize,
-    most: usize,
+    limits: LaneLimits,
     cards: &[&[u8]],
     pin_key: [u8; 16],
 ) -> Result<Lane, ScenarioFault>
-    ensures exact { Gives (λ lane. lane) result (lane_of (path fields.now.place) lane least most (map (λ name. name.now) cards.now) pin_key (table_view fields.now.table.now)) }
-    ensures some { IfOk result (λ lane. least ≤ length lane.purchases) }
-    ensures few { IfOk result (λ lane. length lane.purchases ≤ most) }
+    ensures exact { Gives (λ lane. lane) result (lane_of (path fields.now.place) lane limits (map (λ name. name.now) cards.now) pin_key (table_view fields.now.table.now)) }
+    ensures some { IfOk result (λ lane. limits.least ≤ length lane.purchases) }
+    ensures few { IfOk result (λ lane. length lane.purchases ≤ limits.most) }
     ensures rules { IfOk result IsLane }
     ensures room { IfOk result (λ found. found.durable ≡ true → HasOwnPages (length cards.now) lane) }
     ensures pin { IfOk result (λ lane. lane.settings.pin_key ≡ pin_key) }
 {
     let settings = read_settings(fields, lane, pin_key)?;
-    let purchases = purchases_at(fields, lane, least, most, cards)?;
+    let purchases = purchases_at(fields, lane, limits.least, limits.most, cards)?;
     let pse = fields.flag_or(false, "pse")?;
-    let iso = dialect_or_tlv(fields, lane)?;
+    let iso = dialect_or_tlv(fields, limits.dialect)?;
     let durable = durable_or_not(fields, lane, cards.len())?;
     try_terminal_tears(fields, lane, durable, &purchases)?;
     only_lane_keys(fields)?;
@@ -279,7 +285,39 @@ pub fn read_lane(alloc: Global, table: &Table, pin_key: [u8; 16]) -> Result<Lane
         place: TablePlace::Lane(LaneAt::Only),
         table,
     };
-    lane_with(&fields, LaneAt::Only, 1, 1, &[], pin_key)
+    let limits = LaneLimits {
+        least: 1,
+        most: 1,
+        dialect: false,
+    };
+    lane_with(&fields, LaneAt::Only, limits, &[], pin_key)
+}
+
+/// The lane of a terminal that talks with others, from the table at the key `lane`: as that of a trace, with one to
+/// `most` purchases, and a `dialect` where its messages have one.
+pub fn read_live_lane(
+    alloc: Global,
+    table: &Table,
+    most: usize,
+    pin_key: [u8; 16],
+) -> Result<Lane, ScenarioFault>
+    ensures exact { Gives (λ lane. lane) result (live_lane most pin_key (table_view table.now)) }
+    ensures some { IfOk result (λ lane. 1 ≤ length lane.purchases) }
+    ensures few { IfOk result (λ lane. length lane.purchases ≤ most) }
+    ensures rules { IfOk result IsLane }
+    ensures pin { IfOk result (λ lane. lane.settings.pin_key ≡ pin_key) }
+{
+    let fields = Fields {
+        alloc,
+        place: TablePlace::Lane(LaneAt::Only),
+        table,
+    };
+    let limits = LaneLimits {
+        least: 1,
+        most,
+        dialect: true,
+    };
+    lane_with(&fields, LaneAt::Only, limits, &[], pin_key)
 }
 
 /// A lane among those of the document.
@@ -301,7 +339,12 @@ fn lane_item(
 {
     let at = LaneAt::Numbered(lane);
     let fields = document.element("lane", lane, TablePlace::Lane(at), value)?;
-    lane_with(&fields, at, 0, MOST_PURCHASES - earlier, cards, pin_key)
+    let limits = LaneLimits {
+        least: 0,
+        most: MOST_PURCHASES - earlier,
+        dialect: true,
+    };
+    lane_with(&fields, at, limits, cards, pin_key)
 }
 
 /// Each lane of the document.

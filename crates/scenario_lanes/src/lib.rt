@@ -9,5 +9,5 @@ pub mod purchase;
 pub mod tear;
 
 pub use cards::known_cards;
-pub use lane::{LAST_PAGES, lanes_at, read_lane};
+pub use lane::{LAST_PAGES, lanes_at, read_lane, read_live_lane};
 pub use plan::{Lane, Link, Planned};
