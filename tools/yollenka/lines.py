@@ -83,6 +83,11 @@ def card_document(scenario):
     return document({key: scenario[key] for key in ("issuer", "card") if key in scenario})
 
 
+def host_document(scenario):
+    """The document of a scenario's issuer."""
+    return document({"issuer": scenario["issuer"], "account": scenario["account"]})
+
+
 def without(table, keys):
     return {key: value for key, value in table.items() if key not in keys}
 

@@ -15,7 +15,7 @@ from yollenka.builds import say, silent
 ROOT = Path(seals.ROOT)
 TOOL = "rt"
 # The programs that the launchers and `lab` run: the gate builds each, and the package has each.
-PROGRAMS = ("emvrun", "explain", "card_at_reader", "terminal_at_reader", "card_check")
+PROGRAMS = ("emvrun", "explain", "card_at_reader", "terminal_at_reader", "host_at_lines", "card_check")
 # How long that takes, as measured on four processors.
 TRIAL_TIME = "one to two minutes"
 

@@ -18,7 +18,7 @@ from .messages import (
 from .objects import account_bytes, in_digits
 from .spoil import Spoiler
 
-LINE = re.compile(r"(iso )?> ((?:[0-9a-f]{2}){1,2048})")
+LINE = re.compile(r"(iso )?> ((?:[0-9A-Fa-f]{2}){1,2048})")
 MOST, MOST_BYTES = 40, 2048
 KINDS = [REQUEST] * 5 + [PRESENTMENT] * 2 + [REVERSAL] * 2
 DATES = ["240615", "240616", "240614", "491231", "500101", "991231", "000101", "241332"]
@@ -26,7 +26,8 @@ RESULTS = [b"00", b"Y1", b"Y3", b"Z3", b"05"]
 
 
 class HostAtLines:
-    """An issuer's host that is asked line by line: messages in either spelling, balances, and why the last reply is as it is."""
+    """An issuer's host that is asked line by line (docs/use/reader.md, section 3): messages in either spelling, balances, and
+    why the last reply is as it is. An answer of several lines has newlines within."""
 
     def __init__(self, text):
         self.issuer = Issuer(*accounts_of(text))
@@ -37,8 +38,14 @@ class HostAtLines:
             return " ".join(map(str, ("because", *self.issuer.reason)))
         if found := LINE.fullmatch(line):
             return (self.in_fields if found[1] else self.in_object)(bytes.fromhex(found[2]))
+        if line == "accounts":
+            return "\n".join([f"accounts {len(self.issuer.accounts)}", *map(self.balance, self.issuer.accounts)])
         word, _, pan = line.partition(" ")
-        return f"{line} {self.issuer.balance(pan)}" if word == "balance" and pan in self.issuer.accounts else "?"
+        return self.balance(pan) if word == "balance" and pan in self.issuer.accounts else "?"
+
+    def balance(self, pan):
+        """The line of an account's balance."""
+        return f"balance {pan} {self.issuer.balance(pan)}"
 
     def in_object(self, data):
         """The answer to a message that is one object."""
@@ -179,8 +186,7 @@ class Histories:
             self.say("because")
             if self.now(1, 8):
                 self.say(f"balance {self.one_of(self.known)}")
-        for pan in self.issuer.accounts:
-            self.say(f"balance {pan}")
+        self.say("accounts")
         return self
 
 
@@ -217,7 +223,12 @@ def histories(seed, number):
     return Histories(f"{seed}/{number}").talk()
 
 
+def lines_of(answers):
+    """Answers of one or more lines as the lines that are written."""
+    return "\n".join(answers).split("\n")
+
+
 def answers_to(text, lines):
-    """What the model answers to these lines of a document's issuer."""
+    """The lines that the model answers to these lines of a document's issuer."""
     host = HostAtLines(text)
-    return [host.answer(line) for line in lines]
+    return lines_of(map(host.answer, lines))

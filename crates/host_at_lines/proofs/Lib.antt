@@ -1,0 +1,4 @@
+pub mod Numerals
+pub mod Places
+pub mod Serving
+pub mod Standing
