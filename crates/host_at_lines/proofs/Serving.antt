@@ -4,6 +4,7 @@ use Rattle.line_talk.proofs.Talking.{weaker}
 use Rattle.line_talk.specs.Talk.{EndsDocument, HasServed, IsRefused, NotAsked, Served, Sides, TalkEnds, Untold, WritesLast, other_line}
 use Rattle.line_talk.specs.declared.status.Status.{Status}
 use Rattle.line_talk.specs.declared.status.Status.TheVariants.{OutOfMemory, Unserved}
+use Rattle.scenario_fields.specs.Line.{refused_line}
 use Rattle.scenario_fields.specs.declared.fault.ScenarioFault.TheVariants as fault
 use Rattle.host_at_lines.specs.Document.{IssuerData, ReadsIssuer}
 use Rattle.host_at_lines.specs.Talk.{IsHostTalk, host_opening}
@@ -18,6 +19,7 @@ host_served bytes issuer reading s status ends =
 
 -- there was no memory for it
 pub without_memory : (bytes : List ℕ) (s : Sides) → s.left ≡ s.first → s.held ≡ s.before → EndsDocument host_programme bytes s OutOfMemory
+unfolding refused_line
 without_memory bytes s unread untold = IsRefused None (fault.OutOfMemory, record { text = λ t. tt; other = λ t. tt }, refl) unread (Untold refl untold)
 
 -- without a word it is asked for

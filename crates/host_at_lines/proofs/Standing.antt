@@ -1,5 +1,5 @@
 -- Where a host at lines stands behind a line.
-use Rattle.std.proofs.Common.{◌≡◌, ℕ, Bool, true, false, List, [], ◌∷◌, ◌++◌, map, Option, Some, None, Ok, Err, refl, sym, ap, subst, ◌∙◌}
+use Rattle.std.proofs.Common.{◌≡◌, ℕ, Bool, true, false, if◌then◌else◌, List, [], ◌∷◌, ◌++◌, map, Option, Some, None, Ok, Err, refl, sym, ap, subst, ◌∙◌}
 use Rattle.std.proofs.lemmas.List.{map-append}
 use Rattle.auth_message.specs.Message.{message_of}
 use Rattle.auth_message.specs.Whole.{message_bytes}
@@ -20,6 +20,11 @@ use Rattle.host_at_lines.specs.declared.because.Because.{Because as Why}
 use Rattle.host_at_lines.specs.declared.call.Call.{Call}
 use Rattle.host_at_lines.specs.declared.word.Word.{Word}
 
+-- one more, where there was room
+pub pushed : (old mid new : List (Option Call)) (call : Option Call) (ok : Bool) → new ≡ (if ok then mid ++ call ∷ [] else mid) → ok ≡ true → mid ≡ old → new ≡ old ++ call ∷ []
+pushed old mid new call ok is there same =
+    is ∙ ap (λ (b : Bool). if b then mid ++ call ∷ [] else mid) there ∙ ap (λ (calls : List (Option Call)). calls ++ call ∷ []) same
+
 -- nothing changed
 pub stays : (old new : HostData) (accounts : List AccountData) (calls calls_new : List (Option Call)) (because : Option Why) (heard : Heard)
     → new ≡ old → calls_new ≡ calls → Stands old accounts calls because heard → Stands new accounts calls_new because heard
@@ -37,7 +42,7 @@ module _ (old new : HostData) (accounts : List AccountData) (calls : List (Optio
   reason_now = reason_in old.keys old.accounts (books_of old.keys old.accounts before) message (message_of message)
 
   because_before : because_by calls call reason reply ≡ because_of old.keys old.accounts before message
-  unfolding because_of
+  unfolding because_of reason_now
   because_before =
       ap (λ (c : List (Option Call)). because_by c call reason reply) at.calls_are
       ∙ ap (λ (c : Option Call). because_by (map named before) c reason reply) named_is
@@ -92,9 +97,10 @@ answers_more old new accounts accounts_new calls calls_new because because_new l
     }
 
 -- and none at first
-pub none_answered : (host : HostData) (accounts : List AccountData) → HostStands host [] → accounts ≡ host.accounts → HasAnswered host accounts [] None []
-none_answered host accounts begun same = record {
+pub none_answered : (host : HostData) (accounts : List AccountData) (calls : List (Option Call)) → HostStands host [] → accounts ≡ host.accounts → calls ≡ []
+    → HasAnswered host accounts calls None []
+none_answered host accounts calls begun same empty = record {
   heard = Nothing;
   talked = begins;
-  stands = record { host_is = begun; accounts_are = same; calls_are = refl; because_is = refl };
+  stands = record { host_is = begun; accounts_are = same; calls_are = empty; because_is = refl };
 }

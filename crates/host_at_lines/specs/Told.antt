@@ -58,7 +58,7 @@ blank_number None = []
 blank_number (Some number) = codes " " ++ decimal number
 
 abbrev pub above_words : ℕ → ℤ → List ℕ
-above_words amount balance = codes "above-balance " ++ (decimal amount ++ (codes " " ++ signed_decimal balance))
+above_words amount balance = (codes "above-balance " ++ decimal amount) ++ (codes " " ++ signed_decimal balance)
 
 abbrev pub settled_words : ℕ → Option ℕ → List ℕ
 settled_words amount held = codes "settled " ++ (decimal amount ++ blank_number held)

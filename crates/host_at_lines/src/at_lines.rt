@@ -39,13 +39,14 @@ pub fn begin<'a>(alloc: Global, host: Host<'a>, accounts: &'a [Account]) -> Host
     requires begun { HostStands host [] }
     requires accounts { accounts.now ≡ host.accounts }
     ensures begun { HasAnswered result.host result.accounts.now result.calls.items result.because [] }
-    ensures keys { result.host.keys ≡ host.keys }
-    ensures accounts { result.host.accounts ≡ host.accounts }
+    ensures keys { result.host.keys ≡ host.entry.keys }
+    ensures accounts { result.host.accounts ≡ host.entry.accounts }
 {
+    let calls = Vec::new(alloc);
     HostAtLines {
         host,
         accounts,
-        calls: Vec::new(alloc),
+        calls,
         because: None,
     }
 }
@@ -208,12 +209,12 @@ fn answer_because(because: &Option<Because>, text: &mut Vec<u8>) -> Result<(), A
 }
 
 /// Answers what a line asks. Where there is no memory, the host is as before.
-fn answer_word(at: &mut HostAtLines<'_>, word: &Word, text: &mut Vec<u8>) -> Result<(), AllocError>
-    requires short { IsShort word.now }
+fn answer_word(at: &mut HostAtLines<'_>, word: Word, text: &mut Vec<u8>) -> Result<(), AllocError>
+    requires short { IsShort word }
     requires stands { (heard : Heard) × Stands at.old.host at.old.accounts.now at.old.calls.items at.old.because heard }
     ensures turn { OnOk result ((heard : Heard) → Stands at.old.host at.old.accounts.now at.old.calls.items at.old.because heard
         → IsTurn at.new.host at.new.accounts.now at.new.calls.items at.new.because text.new.items
-        (spec.turn_by at.old.host.keys at.old.host.accounts heard word.now)) }
+        (spec.turn_by at.old.host.keys at.old.host.accounts heard word)) }
     ensures kept { OnErr result ((heard : Heard) → Stands at.old.host at.old.accounts.now at.old.calls.items at.old.because heard
         → Stands at.new.host at.new.accounts.now at.new.calls.items at.new.because heard) }
     ensures keys { at.new.host.keys ≡ at.old.host.keys }
@@ -221,13 +222,13 @@ fn answer_word(at: &mut HostAtLines<'_>, word: &Word, text: &mut Vec<u8>) -> Res
 {
     match word {
         Word::Message { iso, bytes } => {
-            if *iso {
+            if iso {
                 answer_iso(at, bytes.as_slice(), text)
             } else {
                 answer_message(at, false, bytes.as_slice(), text)
             }
         }
-        Word::Balance(pan) => answer_balance(&at.host, pan, text),
+        Word::Balance(pan) => answer_balance(&at.host, &pan, text),
         Word::Accounts => answer_accounts(&at.host, at.accounts, text),
         Word::Because => answer_because(&at.because, text),
         Word::Other => put_line(text, b"?\n"),
@@ -251,7 +252,8 @@ pub fn answer_line(
     ensures accounts { at.new.host.accounts ≡ at.old.host.accounts }
 {
     let word = word_of(alloc, line)?;
-    answer_word(at, &word, text)
+    answer_word(at, word, text)?;
+    Ok(())
 }
 
 impl Party for HostAtLines<'_> {

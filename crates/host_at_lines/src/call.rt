@@ -59,6 +59,7 @@ fn call_in(message: &Incoming<'_>) -> Call
 }
 
 /// What a message is, none where it can't be read.
+#[tactic(auto, unfolding(crate::specs::Calls::named))]
 pub fn call_of(message: &[u8]) -> Option<Call>
     ensures { result ≡ spec.named message.now }
 {

@@ -1,5 +1,6 @@
 //! The lines that an issuer's host answers.
 ghost use Rattle.std.specs.Prelude.{◌≡◌, ◌+◌, ◌*◌, ◌≤◌, ◌++◌, ◌∷◌, [], length, codes, decimal};
+ghost use Rattle.std.specs.Fmt.{signed_decimal};
 ghost use Rattle.arrayvec.specs.ArrayVec.{array_vec_len};
 ghost use Rattle.ber_tlv.specs.Written.{tag_bytes};
 ghost use Rattle.report_text.specs.Pieces.{hex_or_dash as hex_text};
@@ -159,16 +160,24 @@ fn put_both(word: &[u8], one: &[u8], other: &[u8], out: &mut LineText)
     hex_or_dash(out, other);
 }
 
+/// A balance behind a blank.
+fn put_blank_balance(balance: i128, out: &mut LineText)
+    requires room { array_vec_len out.old ≤ 300 }
+    ensures text { out.new.items ≡ out.old.items ++ (codes " " ++ signed_decimal balance) }
+    ensures len { array_vec_len out.new ≤ array_vec_len out.old + 41 }
+{
+    append(out, b" ");
+    amount(out, balance);
+}
+
 /// An amount that is above a balance.
 fn put_above(asked: u64, balance: i128, out: &mut LineText)
     requires room { array_vec_len out.old ≤ 100 }
     ensures text { out.new.items ≡ out.old.items ++ spec.above_words asked balance }
-    ensures len { array_vec_len out.new ≤ array_vec_len out.old + 120 }
+    ensures len { array_vec_len out.new ≤ array_vec_len out.old + 130 }
 {
-    append(out, b"above-balance ");
-    number(out, asked);
-    append(out, b" ");
-    amount(out, balance);
+    put_place(b"above-balance ", asked, out);
+    put_blank_balance(balance, out);
 }
 
 /// An amount that is booked, and the held one, where there was one.
@@ -186,7 +195,7 @@ fn put_settled(booked: u64, held: Option<u64>, out: &mut LineText)
 fn put_reason(reason: Reason, earlier: Option<u64>, out: &mut LineText)
     requires room { array_vec_len out.old ≤ 100 }
     ensures text { out.new.items ≡ out.old.items ++ spec.reason_words earlier reason }
-    ensures len { array_vec_len out.new ≤ array_vec_len out.old + 120 }
+    ensures len { array_vec_len out.new ≤ array_vec_len out.old + 130 }
 {
     match reason {
         Reason::Unreadable { fault } => put_fault(fault, out),

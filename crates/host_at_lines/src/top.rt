@@ -1,9 +1,10 @@
 //! The top call.
-ghost use Rattle.std.specs.Prelude.{◌≡◌, [], map, string_bytes};
+ghost use Rattle.std.specs.Prelude.{◌≡◌, [], ℕ, List, Ok, map, string_bytes};
 ghost use Rattle.std.specs.List.{All};
 ghost use Rattle.issuer_host.specs.Account.{IsAccount};
 ghost use Rattle.issuer_host.specs.History.{HostStands};
 ghost use Rattle.line_talk.specs.Talk.{EndsDocument, Served, TalkSinkCount, TalkSourceCount, TalkEnds};
+ghost use Rattle.host_at_lines.specs.Document.{ReadsIssuer};
 ghost use Rattle.host_at_lines.specs.Talk.{IsHostTalk, host_opening};
 ghost use Rattle.host_at_lines.specs.Top.{host_programme, programme_of};
 
@@ -24,13 +25,34 @@ fn serve_host<S: Source, K: Sink>(
 ) -> Status
     requires begun { HostStands host [] }
     requires accounts { accounts.now ≡ host.accounts }
-    ensures ends { TalkEnds (IsHostTalk host.keys host.accounts) host_opening
+    ensures ends { TalkEnds (IsHostTalk host.entry.keys host.entry.accounts) host_opening
         (record { first = S.left source.old; left = S.left source.new; before = K.held sink.old; held = K.held sink.new }) result }
     ensures source { TalkSourceCount (S.faults source.old) (S.faults source.new) result }
     ensures sink { TalkSinkCount (K.faults sink.old) (K.faults sink.new) result }
 {
     let mut at = begin(alloc, host, accounts);
     converse(alloc, &mut at, source, sink)
+}
+
+/// Answers the lines for an issuer's host, or tells by the status that there is no memory for it.
+fn serve_issuer<S: Source, K: Sink>(
+    alloc: Global,
+    issuer: Issuer,
+    source: &mut S,
+    sink: &mut K,
+) -> Status
+    requires { All IsAccount issuer.accounts.items }
+    ensures ends { (bytes : List ℕ) → ReadsIssuer bytes (Ok (record { keys = issuer.keys; accounts = issuer.accounts.items }))
+        → EndsDocument host_programme bytes (record { first = S.left source.old; left = S.left source.new; before = K.held sink.old; held = K.held sink.new }) result }
+    ensures source { TalkSourceCount (S.faults source.old) (S.faults source.new) result }
+    ensures sink { TalkSinkCount (K.faults sink.old) (K.faults sink.new) result }
+{
+    let Issuer { keys, accounts } = issuer;
+    match Host::new(alloc, keys, accounts.as_slice()) {
+        Ok(host) => serve_host(alloc, host, accounts.as_slice(), source, sink),
+        // No two accounts of a document have one number: this is want of memory.
+        Err(_) => Status::OutOfMemory,
+    }
 }
 
 /// Answers a document with its issuer's host, or with its fault.
@@ -46,11 +68,7 @@ fn serve_document<S: Source, K: Sink>(
     ensures sink { TalkSinkCount (K.faults sink.old) (K.faults sink.new) result }
 {
     match read_issuer(alloc, bytes) {
-        Ok(Issuer { keys, accounts }) => match Host::new(alloc, keys, accounts.as_slice()) {
-            Ok(host) => serve_host(alloc, host, accounts.as_slice(), source, sink),
-            // No two accounts of a document have one number: this is want of memory.
-            Err(_) => Status::OutOfMemory,
-        },
+        Ok(issuer) => serve_issuer(alloc, issuer, source, sink),
         Err(fault) => refuse(alloc, &fault, sink),
     }
 }
@@ -85,7 +103,7 @@ pub fn run<S: Source, K: Sink>(
     ensures source { TalkSourceCount (S.faults source.old) (S.faults source.new) result }
     ensures sink { TalkSinkCount (K.faults sink.old) (K.faults sink.new) result }
 {
-    if !words.is_empty() {
+    if words.len() > 0 {
         return answer_other(sink);
     }
     serve(alloc, source, sink)
