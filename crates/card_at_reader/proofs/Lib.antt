@@ -1,2 +1,3 @@
+pub mod CannedTalks
 pub mod Serving
 pub mod Sides

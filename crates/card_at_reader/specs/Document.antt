@@ -3,11 +3,11 @@ use Rattle.std.specs.Prelude.{ℕ, Bool, true, if◌then◌else◌, List, [], �
 use Rattle.std.specs.Str.{IsUtf8, bytes_eq}
 use Rattle.toml.specs.Data.{Members}
 use Rattle.toml.specs.Parse.{parse_document}
-use Rattle.card_files.specs.Views.{ImageData}
 use Rattle.scenario.specs.Cards.{CardData, cards_at}
 use Rattle.scenario.specs.Issuer.{issuer_at}
 use Rattle.scenario.specs.Scenario.{top_keys}
-use Rattle.scenario.specs.Seen.{image_there, seen_cards}
+use Rattle.scenario.specs.Seen.{seen_cards}
+use Rattle.scenario.specs.declared.plan.CardKind.{CardKind}
 use Rattle.scenario.specs.declared.plan.NamedCard.{NamedCard}
 use Rattle.scenario_fields.specs.Fault.{◌>>=◌, Gives}
 use Rattle.scenario_fields.specs.Fields.{only}
@@ -37,7 +37,7 @@ abbrev pub is_wanted : Option (List ℕ) → List ℕ → Bool
 is_wanted None name = true
 is_wanted (Some wanted) name = bytes_eq name wanted
 
--- the applications of the first card that is wanted, where it has some
-abbrev pub image_in : Option (List ℕ) → List NamedCard → Option ImageData
-image_in wanted [] = None
-image_in wanted (card ∷ cards) = if is_wanted wanted card.name.items then image_there card.kind else image_in wanted cards
+-- what the first card that is wanted answers by
+abbrev pub kind_in : Option (List ℕ) → List NamedCard → Option CardKind
+kind_in wanted [] = None
+kind_in wanted (card ∷ cards) = if is_wanted wanted card.name.items then Some card.kind else kind_in wanted cards

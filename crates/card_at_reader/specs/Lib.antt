@@ -1,3 +1,4 @@
+pub mod Canned
 pub mod Desk
 pub mod Document
 pub mod Top

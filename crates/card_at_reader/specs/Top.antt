@@ -1,27 +1,34 @@
 -- What the program does with its words and with a document.
-use Rattle.std.specs.Prelude.{◌≡◌, ℕ, List, [], ◌∷◌, Option, Some, None, Ok, Err}
-use Rattle.card_files.specs.Views.{ImageData}
+use Rattle.std.specs.Prelude.{◌≡◌, ℕ, List, [], ◌∷◌, map, Option, Some, None, Ok, Err}
 use Rattle.line_talk.specs.Talk.{Programme, no_programme}
+use Rattle.line_talk.specs.Turns.{Turn}
+use Rattle.scenario.specs.declared.plan.CardKind.{CardKind}
+use Rattle.scenario.specs.declared.plan.CardKind.TheVariants.{App, Canned}
 use Rattle.scenario.specs.declared.plan.NamedCard.{NamedCard}
 use Rattle.scenario_fields.specs.Line.{refused_line}
 use Rattle.scenario_fields.specs.declared.fault.ScenarioFault.{ScenarioFault}
+use Rattle.card_at_reader.specs.Canned.{IsCannedTalk}
 use Rattle.card_at_reader.specs.Desk.{IsCardTalk, card_opening}
-use Rattle.card_at_reader.specs.Document.{image_in, ReadsCards}
+use Rattle.card_at_reader.specs.Document.{kind_in, ReadsCards}
 
--- a document's card of this name, with these applications
-pub record IsServed (name : Option (List ℕ)) (bytes : List ℕ) (image : ImageData) : Type 0 where
+-- a document's card of this name, and what it answers by
+pub record IsServed (name : Option (List ℕ)) (bytes : List ℕ) (kind : CardKind) : Type 0 where
   pub cards : List NamedCard
   pub reading : ReadsCards bytes (Ok cards)
-  pub image_is : image_in name cards ≡ Some image
+  pub kind_is : kind_in name cards ≡ Some kind
 
--- a document is refused by its first fault; it may have no such card with applications; and else that card talks from the
--- day that it was made
+-- a talk of a card with applications, from the day that it was made, or of one of canned answers
+abbrev pub IsTalkOf : CardKind → List Turn → Type 0
+IsTalkOf (App image) turns = IsCardTalk image turns
+IsTalkOf (Canned answers) turns = IsCannedTalk (map (λ answer. answer.items) answers.items) turns
+
+-- a document is refused by its first fault; it may have no such card; and else that card talks
 abbrev pub card_programme : Option (List ℕ) → Programme
 card_programme name = record {
   Unasked = ⊥;
   Refuses = λ bytes line. (fault : ScenarioFault) × ReadsCards bytes (Err fault) × (refused_line fault ≡ line);
-  Lacks = λ bytes. (cards : List NamedCard) × ReadsCards bytes (Ok cards) × (image_in name cards ≡ None);
-  Talks = λ bytes opening turns. (image : ImageData) × IsServed name bytes image × (opening ≡ card_opening) × IsCardTalk image turns;
+  Lacks = λ bytes. (cards : List NamedCard) × ReadsCards bytes (Ok cards) × (kind_in name cards ≡ None);
+  Talks = λ bytes opening turns. (kind : CardKind) × IsServed name bytes kind × (opening ≡ card_opening) × IsTalkOf kind turns;
 }
 
 -- the card's name, where one is said

@@ -6,14 +6,13 @@ ghost use Rattle.scenario.specs.Scenario.{top_keys};
 ghost use Rattle.scenario_fields.specs.Fault.{Gives};
 ghost use Rattle.scenario_fields.specs.Fields.{only};
 ghost use Rattle.scenario_fields.specs.TablePaths.{path};
-ghost use Rattle.card_at_reader.specs.Document.{cards_of, image_in, ReadsCards};
+ghost use Rattle.card_at_reader.specs.Document.{cards_of, kind_in, ReadsCards};
 ghost use Rattle.card_at_reader.specs.Document as spec;
 ghost use Rattle.std.specs.Result.{result_map_both};
 
-use card_files::Image;
-use scenario::NamedCard;
 use scenario::card::cards_at;
 use scenario::issuer::issuer_at;
+use scenario::{CardKind, NamedCard};
 use scenario_fields::{Fields, ScenarioFault, TablePlace};
 use std::alloc::Global;
 use toml::Table;
@@ -69,13 +68,13 @@ fn is_wanted(name: Option<&[u8]>, card: &NamedCard) -> bool
     }
 }
 
-/// The applications of the first card that is wanted, where it has some.
-pub fn image_of<'a>(cards: &'a [NamedCard], name: Option<&[u8]>) -> Option<&'a Image>
-    ensures { option_map (λ image. image.now) result ≡ image_in (option_map (λ name. name.now) name.entry) cards.now }
+/// What the first card that is wanted answers by.
+pub fn kind_of<'a>(cards: &'a [NamedCard], name: Option<&[u8]>) -> Option<&'a CardKind>
+    ensures { option_map (λ kind. kind.now) result ≡ kind_in (option_map (λ name. name.now) name.entry) cards.now }
 {
     for card in cards {
         if is_wanted(name, card) {
-            return card.kind.image();
+            return Some(&card.kind);
         }
     }
     None

@@ -2,6 +2,7 @@
 //! answer to each.
 #![tactic(auto)]
 
+mod canned;
 mod desk;
 mod document;
 #[cfg(test)]

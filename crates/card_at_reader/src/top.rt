@@ -1,14 +1,17 @@
 //! The top call.
 ghost use Rattle.std.specs.Prelude.{◌≡◌, map, string_bytes, false, None, option_map};
 ghost use Rattle.line_talk.specs.Talk.{EndsDocument, Served, TalkSinkCount, TalkSourceCount, TalkEnds};
+ghost use Rattle.card_at_reader.specs.Canned.{IsCannedTalk};
 ghost use Rattle.card_at_reader.specs.Desk.{IsCardTalk, card_opening};
-ghost use Rattle.card_at_reader.specs.Top.{card_name_in, card_programme, programme_of};
+ghost use Rattle.card_at_reader.specs.Top.{IsTalkOf, card_name_in, card_programme, programme_of};
 
+use crate::canned::CannedDesk;
 use crate::desk::put_in;
-use crate::document::{image_of, read_cards};
+use crate::document::{kind_of, read_cards};
 use card_files::Image;
 use emv_ports::{Pages, ReadFault, Sink, Source};
 use line_talk::{Preamble, Status, answer_other, converse, read_preamble, refuse};
+use scenario::CardKind;
 use std::alloc::Global;
 
 /// Answers the lines for a card that has decided nothing yet.
@@ -30,6 +33,46 @@ fn serve_card<P: Pages, S: Source, K: Sink>(
     converse(alloc, &mut desk, source, sink)
 }
 
+/// Answers the lines for a card of canned answers.
+fn serve_canned<S: Source, K: Sink>(
+    alloc: Global,
+    answers: &[Vec<u8>],
+    source: &mut S,
+    sink: &mut K,
+) -> Status
+    ensures ends { TalkEnds (IsCannedTalk (map (λ answer. answer.items) answers.now)) card_opening
+        (record { first = S.left source.old; left = S.left source.new; before = K.held sink.old; held = K.held sink.new }) result }
+    ensures source { TalkSourceCount (S.faults source.old) (S.faults source.new) result }
+    ensures sink { TalkSinkCount (K.faults sink.old) (K.faults sink.new) result }
+{
+    let mut desk = CannedDesk {
+        answers,
+        given: None,
+    };
+    converse(alloc, &mut desk, source, sink)
+}
+
+/// Answers the lines for a card, by what it answers.
+fn serve_kind<P: Pages, S: Source, K: Sink>(
+    alloc: Global,
+    kind: &CardKind,
+    pages: P,
+    source: &mut S,
+    sink: &mut K,
+) -> Status
+    requires off { (P.memory pages).on ≡ false }
+    requires plan { (P.memory pages).plan ≡ None }
+    ensures ends { TalkEnds (IsTalkOf kind.now) card_opening
+        (record { first = S.left source.old; left = S.left source.new; before = K.held sink.old; held = K.held sink.new }) result }
+    ensures source { TalkSourceCount (S.faults source.old) (S.faults source.new) result }
+    ensures sink { TalkSinkCount (K.faults sink.old) (K.faults sink.new) result }
+{
+    match kind {
+        CardKind::App(image) => serve_card(alloc, image, pages, source, sink),
+        CardKind::Canned(answers) => serve_canned(alloc, answers.as_slice(), source, sink),
+    }
+}
+
 /// Answers a document with its card, or with its fault.
 fn serve_document<P: Pages, S: Source, K: Sink>(
     alloc: Global,
@@ -47,8 +90,8 @@ fn serve_document<P: Pages, S: Source, K: Sink>(
     ensures sink { TalkSinkCount (K.faults sink.old) (K.faults sink.new) result }
 {
     match read_cards(alloc, bytes) {
-        Ok(cards) => match image_of(cards.as_slice(), name) {
-            Some(image) => serve_card(alloc, image, pages, source, sink),
+        Ok(cards) => match kind_of(cards.as_slice(), name) {
+            Some(kind) => serve_kind(alloc, kind, pages, source, sink),
             None => answer_other(sink),
         },
         Err(fault) => refuse(alloc, &fault, sink),

@@ -6,7 +6,7 @@ use Rattle.card_at_reader.proofs.top.serve_document.Goals as goal
 pub returns-in-Some-clause-ends : goal.returns-in-Some-clause-ends
 returns-in-Some-clause-ends g c =
     card_served (option_map (λ name. name.now) c.args.name) c.args.bytes.now c.in-Ok.cards.items c.as_slice.result.now c.in-Ok.ensures c.as_slice.ensures.value
-    c.in-Some.image.now c.in-Some.ensures _ c.serve_card.result c.serve_card.ensures.ends
+    c.in-Some.kind.now c.in-Some.ensures _ c.serve_kind.result c.serve_kind.ensures.ends
 
 pub returns-in-None-clause-ends : goal.returns-in-None-clause-ends
 returns-in-None-clause-ends g c =
