@@ -4,8 +4,9 @@ use Rattle.line_talk.specs.Turns.{Turn}
 use Rattle.line_talk.specs.declared.party.Onward.TheVariants.{Rests}
 use Rattle.card_at_reader.specs.Desk.{answer_text, off_text, other_text}
 use Rattle.card_at_reader.specs.Words.{line_word}
+use Rattle.card_at_reader.specs.declared.word.Order.TheVariants.{Power, Off, Command, Pull}
 use Rattle.card_at_reader.specs.declared.word.Word.{Word}
-use Rattle.card_at_reader.specs.declared.word.Word.TheVariants.{Power, Off, Command, Pull, Other}
+use Rattle.card_at_reader.specs.declared.word.Word.TheVariants.{Does, Asks, Other}
 
 -- an answer, and how many of its answers the card gave since power-up behind it, where it is on
 pub record CannedTurn : Type 0 where
@@ -30,10 +31,11 @@ canned_command answers (Some given) = canned_given given (slice_get answers give
 
 -- by what the line asks: a power-up begins with the first answer, and there is no commit at which it could be pulled out
 abbrev pub canned_turn_by : List (List ℕ) → Option ℕ → Word → CannedTurn
-canned_turn_by answers at Power = record { answer = canned_power; after = Some 0 }
-canned_turn_by answers at Off = record { answer = off_text; after = None }
-canned_turn_by answers at (Command command) = canned_command answers at
-canned_turn_by answers at (Pull tear) = record { answer = other_text; after = at }
+canned_turn_by answers at (Does Power) = record { answer = canned_power; after = Some 0 }
+canned_turn_by answers at (Does Off) = record { answer = off_text; after = None }
+canned_turn_by answers at (Does (Command command)) = canned_command answers at
+canned_turn_by answers at (Does (Pull tear)) = record { answer = other_text; after = at }
+canned_turn_by answers at (Asks question) = record { answer = other_text; after = at }
 canned_turn_by answers at Other = record { answer = other_text; after = at }
 
 -- the answer to a line

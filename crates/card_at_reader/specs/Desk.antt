@@ -17,9 +17,16 @@ use Rattle.report_text.specs.Text.{all_shown}
 use Rattle.card_counters.specs.Counters.{shown_all}
 use Rattle.line_talk.specs.Turns.{Opening, Turn}
 use Rattle.line_talk.specs.declared.party.Onward.TheVariants.{Rests}
+use Rattle.card_at_reader.specs.StateText.{state_text}
+use Rattle.card_at_reader.specs.TornText.{torn_lines}
 use Rattle.card_at_reader.specs.Words.{line_word}
+use Rattle.card_at_reader.specs.declared.notes.Notes.{Notes}
+use Rattle.card_at_reader.specs.declared.word.Order.{Order}
+use Rattle.card_at_reader.specs.declared.word.Order.TheVariants.{Power, Off, Command, Pull}
+use Rattle.card_at_reader.specs.declared.word.Question.{Question}
+use Rattle.card_at_reader.specs.declared.word.Question.TheVariants.{State, Torn as TornAsked}
 use Rattle.card_at_reader.specs.declared.word.Word.{Word}
-use Rattle.card_at_reader.specs.declared.word.Word.TheVariants.{Power, Off, Command, Pull, Other}
+use Rattle.card_at_reader.specs.declared.word.Word.TheVariants.{Does, Asks, Other}
 
 -- on behind this session and these decisions since it was made, of them so many since the power-up; or off, with these
 -- decisions, and perhaps one more
@@ -27,18 +34,21 @@ pub data Side : Type 0 where
   IsOn : (session : List Exchange) (ds : List Decided) (made : ℕ) → Side
   IsOff : (kept : List Decided) (pending : Option Decided) → Side
 
--- with the plan under which it is powered up until it has fired, and the one that replaces it at the next power-up
+-- with what is noted beside it
 pub record At : Type 0 where
   pub side : Side
-  pub plan : Option Tear
-  pub next : Option Tear
+  pub notes : Notes
 
-abbrev pub at_of : Side → Option Tear → Option Tear → At
-at_of side plan next = record { side = side; plan = plan; next = next }
+abbrev pub at_of : Side → Notes → At
+at_of side notes = record { side = side; notes = notes }
+
+-- nothing is planned, and nothing has fired
+abbrev pub no_notes : Notes
+no_notes = record { plan = None; next = None; torn = None }
 
 -- a card that has decided nothing yet
 abbrev pub desk_at_first : At
-desk_at_first = record { side = IsOff [] None; plan = None; next = None }
+desk_at_first = at_of (IsOff [] None) no_notes
 
 -- an answer, and what is behind it
 pub record DeskTurn : Type 0 where
@@ -65,63 +75,84 @@ abbrev pub answer_text : List ℕ → List ℕ
 answer_text answer = codes "< " ++ (hex_or_dash answer ++ 10 ∷ [])
 
 -- the plan of the next power-up
-abbrev pub plan_of : Option Tear → Option Tear → Option Tear
-plan_of plan None = plan
-plan_of plan (Some tear) = Some tear
+abbrev pub plan_in : Option Tear → Option Tear → Option Tear
+plan_in plan None = plan
+plan_in plan (Some tear) = Some tear
+
+abbrev pub plan_of : Notes → Option Tear
+plan_of notes = plan_in notes.plan notes.next
+
+-- behind a power-up with its plan
+abbrev pub powered_notes : Notes → Notes
+powered_notes notes = record notes { plan = plan_of notes; next = None }
+
+-- the plan has fired
+abbrev pub torn_notes : Notes → Notes
+torn_notes notes = record notes { plan = None; torn = notes.plan }
 
 -- a power-up from off: `with_it` tells whether a decision that was cut is found
-abbrev pub desk_powered : ImageData → Bool → Option Tear → List Decided → Option Decided → DeskTurn
-desk_powered image with_it plan kept pending =
-    if names_commit plan 0 then record { answer = torn_power; after = record { side = IsOff kept pending; plan = None; next = None } }
-    else record {
-      answer = power_text image (found_of kept pending with_it);
-      after = record { side = IsOn [] (found_of kept pending with_it) 0; plan = plan; next = None };
-    }
+abbrev pub desk_powered : ImageData → Bool → Notes → List Decided → Option Decided → DeskTurn
+desk_powered image with_it notes kept pending =
+    if names_commit (plan_of notes) 0 then record { answer = torn_power; after = at_of (IsOff kept pending) (torn_notes (powered_notes notes)) }
+    else record { answer = power_text image (found_of kept pending with_it); after = at_of (IsOn [] (found_of kept pending with_it) 0) (powered_notes notes) }
 
 -- a command to a card that is on, where its plan cuts none of its decisions or this one
-abbrev pub commanded : ImageData → List Exchange → List Decided → ℕ → Option Tear → Option Tear → List ℕ → Option Cut → DeskTurn
-commanded image session ds made plan next command None = record {
+abbrev pub commanded : ImageData → List Exchange → List Decided → ℕ → Notes → List ℕ → Option Cut → DeskTurn
+commanded image session ds made notes command None = record {
   answer = answer_text (card_answer image ds session command).answer;
-  after = record {
-    side = IsOn (session ++ record { command = command; answer = (card_answer image ds session command).answer } ∷ [])
-        (ds ++ (card_answer image ds session command).new) (made + length (card_answer image ds session command).new);
-    plan = plan;
-    next = next;
-  };
+  after = at_of (IsOn (session ++ record { command = command; answer = (card_answer image ds session command).answer } ∷ [])
+      (ds ++ (card_answer image ds session command).new) (made + length (card_answer image ds session command).new)) notes;
 }
-commanded image session ds made plan next command (Some cut) = record {
+commanded image session ds made notes command (Some cut) = record {
   answer = torn_text;
-  after = record { side = IsOff (kept_by (fate_by plan) ds cut) (pending_by (fate_by plan) cut); plan = None; next = next };
+  after = at_of (IsOff (kept_by (fate_by notes.plan) ds cut) (pending_by (fate_by notes.plan) cut)) (torn_notes notes);
 }
 
 -- by where the card is
-abbrev pub power_turn : ImageData → Bool → Option Tear → Side → DeskTurn
-power_turn image with_it plan (IsOn session ds made) = desk_powered image with_it plan ds None
-power_turn image with_it plan (IsOff kept pending) = desk_powered image with_it plan kept pending
+abbrev pub power_turn : ImageData → Bool → Notes → Side → DeskTurn
+power_turn image with_it notes (IsOn session ds made) = desk_powered image with_it notes ds None
+power_turn image with_it notes (IsOff kept pending) = desk_powered image with_it notes kept pending
 
 abbrev pub off_side : Side → Side
 off_side (IsOn session ds made) = IsOff ds None
 off_side (IsOff kept pending) = IsOff kept pending
 
-abbrev pub command_turn : ImageData → At → List ℕ → Side → DeskTurn
-command_turn image at command (IsOn session ds made) =
-    commanded image session ds made at.plan at.next command (cut_of at.plan made (card_answer image ds session command).new)
-command_turn image at command (IsOff kept pending) = record { answer = other_text; after = at }
+abbrev pub command_turn : ImageData → Notes → List ℕ → Side → DeskTurn
+command_turn image notes command (IsOn session ds made) = commanded image session ds made notes command (cut_of notes.plan made (card_answer image ds session command).new)
+command_turn image notes command (IsOff kept pending) = record { answer = other_text; after = at_of (IsOff kept pending) notes }
 
 -- turned off, where it is on
 abbrev pub turned_off : At → At
-turned_off at = record { side = off_side at.side; plan = at.plan; next = at.next }
+turned_off at = at_of (off_side at.side) at.notes
 
 -- a plan for the next power-up
 abbrev pub pull_turn : At → List ℕ → Tear → DeskTurn
-pull_turn at line tear = record { answer = line ++ 10 ∷ []; after = record { side = at.side; plan = at.plan; next = Some tear } }
+pull_turn at line tear = record { answer = line ++ 10 ∷ []; after = at_of at.side (record at.notes { next = Some tear }) }
 
--- by what the line asks
+-- its state; of a card that is off, as a power-up without a plan finds it, which is what the next one finds
+abbrev pub state_turn : ImageData → Bool → Notes → Side → DeskTurn
+state_turn image with_it notes (IsOn session ds made) = record { answer = state_text (totals (opening_of image) ds); after = at_of (IsOn session ds made) notes }
+state_turn image with_it notes (IsOff kept pending) = record {
+  answer = state_text (totals (opening_of image) (found_of kept pending with_it));
+  after = at_of (IsOff (found_of kept pending with_it) None) notes;
+}
+
+-- what is told, and the card is left as it is
+abbrev pub asked_turn : ImageData → Bool → At → Question → DeskTurn
+asked_turn image with_it at State = state_turn image with_it at.notes at.side
+asked_turn image with_it at TornAsked = record { answer = torn_lines at.notes.torn; after = at }
+
+-- what the card does
+abbrev pub order_turn : ImageData → Bool → At → List ℕ → Order → DeskTurn
+order_turn image with_it at line Power = power_turn image with_it at.notes at.side
+order_turn image with_it at line Off = record { answer = off_text; after = turned_off at }
+order_turn image with_it at line (Command command) = command_turn image at.notes command.items at.side
+order_turn image with_it at line (Pull tear) = pull_turn at line tear
+
+-- by what the line says
 abbrev pub turn_by : ImageData → Bool → At → List ℕ → Word → DeskTurn
-turn_by image with_it at line Power = power_turn image with_it (plan_of at.plan at.next) at.side
-turn_by image with_it at line Off = record { answer = off_text; after = turned_off at }
-turn_by image with_it at line (Command command) = command_turn image at command.items at.side
-turn_by image with_it at line (Pull tear) = pull_turn at line tear
+turn_by image with_it at line (Does order) = order_turn image with_it at line order
+turn_by image with_it at line (Asks question) = asked_turn image with_it at question
 turn_by image with_it at line Other = record { answer = other_text; after = at }
 
 -- the answer to a line
@@ -133,28 +164,31 @@ abbrev pub SideStands : CardSeen → Option Tear → Side → Type 0
 SideStands icc plan (IsOn session ds made) = IccOn icc session ds plan made
 SideStands icc plan (IsOff kept pending) = IccOff icc kept pending
 
-pub record DeskStands (icc : CardSeen) (plan next : Option Tear) (at : At) : Type 0 where
-  pub plan_is : at.plan ≡ plan
-  pub next_is : at.next ≡ next
-  pub side : SideStands icc plan at.side
+pub record DeskStands (icc : CardSeen) (notes : Notes) (at : At) : Type 0 where
+  pub notes_are : at.notes ≡ notes
+  pub side : SideStands icc notes.plan at.side
 
 -- both are plans
-pub record ArePlans (plan next : Option Tear) : Type 0 where
-  pub now : IsTrue (is_plan plan)
-  pub later : IsTrue (is_plan next)
+pub record ArePlans (notes : Notes) : Type 0 where
+  pub now : IsTrue (is_plan notes.plan)
+  pub later : IsTrue (is_plan notes.next)
 
 -- a tear that is asked for can be planned
+abbrev pub CanBeDone : Order → Type 0
+CanBeDone Power = Unit {0}
+CanBeDone Off = Unit {0}
+CanBeDone (Command command) = Unit {0}
+CanBeDone (Pull tear) = IsTrue (is_plan (Some tear))
+
 abbrev pub CanBePlanned : Word → Type 0
-CanBePlanned Power = Unit {0}
-CanBePlanned Off = Unit {0}
-CanBePlanned (Command command) = Unit {0}
-CanBePlanned (Pull tear) = IsTrue (is_plan (Some tear))
+CanBePlanned (Does order) = CanBeDone order
+CanBePlanned (Asks question) = Unit {0}
 CanBePlanned Other = Unit {0}
 
 -- this was answered, and the card stands where the turn leaves it
-pub record IsTurn (icc : CardSeen) (plan next : Option Tear) (text : List ℕ) (turn : DeskTurn) : Type 0 where
+pub record IsTurn (icc : CardSeen) (notes : Notes) (text : List ℕ) (turn : DeskTurn) : Type 0 where
   pub answer_is : text ≡ turn.answer
-  pub stands : DeskStands icc plan next turn.after
+  pub stands : DeskStands icc notes turn.after
 
 -- lines that were answered one after the other; behind each another may follow
 pub data CardTalked (image : ImageData) (from : At) : List Turn → At → Type 0 where
@@ -167,11 +201,11 @@ abbrev pub IsCardTalk : ImageData → List Turn → Type 0
 IsCardTalk image turns = (at : At) × CardTalked image desk_at_first turns at
 
 -- a card that has answered these lines so stands in the reader
-pub record HasAnswered (icc : CardSeen) (plan next : Option Tear) (turns : List Turn) : Type 0 where
+pub record HasAnswered (icc : CardSeen) (notes : Notes) (turns : List Turn) : Type 0 where
   pub at : At
   pub talked : CardTalked icc.image desk_at_first turns at
-  pub stands : DeskStands icc plan next at
-  pub plans : ArePlans plan next
+  pub stands : DeskStands icc notes at
+  pub plans : ArePlans notes
 
 -- it says nothing before the first line
 abbrev pub card_opening : Opening

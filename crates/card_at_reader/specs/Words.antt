@@ -1,4 +1,4 @@
--- What a line asks of a card in a reader (this project's own).
+-- What a line says to a card in a reader (this project's own).
 use Rattle.std.specs.Prelude.{ℕ, ◌==◌, ◌||◌, nat_lt, if◌then◌else◌, List, length, codes, Option, Some, None, option_map, Result, Ok, Err}
 use Rattle.std.specs.Str.{bytes_eq}
 use Rattle.emv_ports.specs.declared.tear.Tear.{Tear}
@@ -9,8 +9,10 @@ use Rattle.hex.specs.declared.error.FromHexError.{FromHexError}
 use Rattle.report_lines.specs.Parts.{split_word}
 use Rattle.line_talk.specs.Preamble.{behind}
 use Rattle.line_talk.specs.Numbers.{digits_up_to}
+use Rattle.card_at_reader.specs.declared.word.Order.TheVariants.{Power, Off, Command, Pull}
+use Rattle.card_at_reader.specs.declared.word.Question.TheVariants.{State, Torn as TornAsked}
 use Rattle.card_at_reader.specs.declared.word.Word.{Word}
-use Rattle.card_at_reader.specs.declared.word.Word.TheVariants.{Power, Off, Command, Pull, Other}
+use Rattle.card_at_reader.specs.declared.word.Word.TheVariants.{Does, Asks, Other}
 
 -- the number of a write, from 1
 abbrev pub from_one : Option ℕ → Option ℕ
@@ -42,20 +44,31 @@ tear_in_line text = tear_of_parts (digits_up_to 255 (split_word text).0) (tear_p
 
 abbrev pub pull_of : Option Tear → Word
 pull_of None = Other
-pull_of (Some tear) = Pull tear
+pull_of (Some tear) = Does (Pull tear)
 
 -- a command of 1 to 261 bytes
 abbrev pub command_word : List ℕ → Word
-command_word bytes = if length bytes == 0 || nat_lt 261 (length bytes) then Other else Command (record { items = bytes })
+command_word bytes = if length bytes == 0 || nat_lt 261 (length bytes) then Other else Does (Command (record { items = bytes }))
 
 -- one in hexadecimal
 abbrev pub command_in : Result (List ℕ) FromHexError → Word
 command_in (Err fault) = Other
 command_in (Ok bytes) = command_word bytes
 
--- what a line asks
+-- a word by itself
+abbrev pub plain_word : List ℕ → Option Word
+plain_word line =
+    if bytes_eq line (codes "power") then Some (Does Power)
+    else if bytes_eq line (codes "off") then Some (Does Off)
+    else if bytes_eq line (codes "state") then Some (Asks State)
+    else if bytes_eq line (codes "torn") then Some (Asks TornAsked)
+    else None
+
+abbrev pub word_or : Option Word → Word → Word
+word_or None rest = rest
+word_or (Some word) rest = word
+
+-- what a line says
 unfoldable pub line_word : List ℕ → Word
 line_word line =
-    if bytes_eq line (codes "power") then Power
-    else if bytes_eq line (codes "off") then Off
-    else if_behind (behind (codes "pull ") line) (λ text. pull_of (tear_in_line text)) (command_in (decode_of line))
+    word_or (plain_word line) (if_behind (behind (codes "pull ") line) (λ text. pull_of (tear_in_line text)) (command_in (decode_of line)))

@@ -5,7 +5,7 @@ ghost use Rattle.card_at_reader.specs.Canned as spec;
 ghost use Rattle.card_at_reader.specs.Canned.{CannedTalked, IsCannedTalk, IsCannedTurn};
 ghost use Rattle.card_at_reader.specs.Desk.{answer_text, card_opening};
 
-use crate::word::{Word, word_of};
+use crate::word::{Order, Word, word_of};
 use line_talk::{LineText, Onward, Party, put_line};
 use std::alloc::{AllocError, Global};
 
@@ -67,16 +67,16 @@ fn answer_word(
     ensures answers { desk.new.answers ≡ desk.old.answers }
 {
     match word {
-        Word::Power => {
+        Word::Does(Order::Power) => {
             desk.given = Some(0);
             put_line(text, b"power canned\n")
         }
-        Word::Off => {
+        Word::Does(Order::Off) => {
             desk.given = None;
             put_line(text, b"off\n")
         }
-        Word::Command(_) => give(alloc, desk, text),
-        Word::Pull(_) | Word::Other => put_line(text, b"?\n"),
+        Word::Does(Order::Command(_)) => give(alloc, desk, text),
+        Word::Does(Order::Pull(_)) | Word::Asks(_) | Word::Other => put_line(text, b"?\n"),
     }
 }
 

@@ -8,12 +8,14 @@ ghost use Rattle.card_app.specs.Answering.{card_answer};
 ghost use Rattle.card_counters.specs.Counters as counts;
 ghost use Rattle.card_state.specs.Decisions.{Decided};
 ghost use Rattle.emv_ports.specs.Cut.{is_plan};
-ghost use Rattle.emv_ports.specs.declared.tear.Tear.{Tear as Plan};
 ghost use Rattle.report_text.specs.Text.{all_shown};
 ghost use Rattle.card_at_reader.specs.Desk as spec;
-ghost use Rattle.card_at_reader.specs.Desk.{ArePlans, At, HasAnswered, IsCardTalk, CanBePlanned, IsTurn, Side, SideStands, DeskStands, at_of, card_opening};
+ghost use Rattle.card_at_reader.specs.Desk.{ArePlans, At, HasAnswered, IsCardTalk, CanBeDone, IsTurn, Side, SideStands, DeskStands, at_of, card_opening};
 
-use crate::word::{Word, word_of};
+use crate::notes::Notes;
+use crate::state_text::tell_state;
+use crate::torn_text::tell_torn;
+use crate::word::{Order, Question, Word, word_of};
 use apdu_core::Answer;
 use arrayvec::ArrayVec;
 use card_app::Icc;
@@ -26,27 +28,28 @@ use report_text::pieces::{append, hex_or_dash};
 use report_text::{Line, Text, write_line};
 use std::alloc::{AllocError, Global};
 
-/// A card in a reader: the plan under which it is powered up until it has fired, and the one that replaces it at the
-/// next power-up.
+/// A card in a reader, and what is noted beside it.
 #[derive(Drop)]
 pub struct Desk<'i, P: Pages> {
     pub icc: Icc<'i, P>,
-    pub plan: Option<Tear>,
-    pub next: Option<Tear>,
+    pub notes: Notes,
 }
 
 /// A card that has decided nothing yet, off.
 pub fn put_in<'i, P: Pages>(image: &'i Image, pages: P) -> Desk<'i, P>
     requires off { (P.memory pages).on ≡ false }
     requires plan { (P.memory pages).plan ≡ None }
-    ensures stands { DeskStands result.icc result.plan result.next (spec.desk_at_first) }
-    ensures plans { ArePlans result.plan result.next }
+    ensures stands { DeskStands result.icc result.notes (spec.desk_at_first) }
+    ensures plans { ArePlans result.notes }
     ensures image { result.icc.image ≡ image.now }
 {
     Desk {
         icc: Icc::new(image, pages),
-        plan: None,
-        next: None,
+        notes: Notes {
+            plan: None,
+            next: None,
+            torn: None,
+        },
     }
 }
 
@@ -73,34 +76,42 @@ fn tell_power(image: &Image, state: &CardState, out: &mut Text)
     tell(out, &text.as_slice()[3..]);
 }
 
-/// The plan of the next power-up.
-fn plan_of(plan: Option<Tear>, next: Option<Tear>) -> Option<Tear>
-    requires { ArePlans plan next }
-    ensures exact { result ≡ spec.plan_of plan next }
-    ensures plan { IsTrue (is_plan result) }
+/// Takes the plan of the next power-up.
+fn take_plan(notes: &mut Notes)
+    requires { ArePlans notes.old }
+    ensures taken { notes.new ≡ spec.powered_notes notes.old }
+    ensures plans { ArePlans notes.new }
 {
-    match next {
-        Some(tear) => Some(tear),
-        None => plan,
+    if let Some(tear) = notes.next {
+        notes.plan = Some(tear);
+        notes.next = None;
     }
+}
+
+/// Notes that the plan has fired.
+fn note_torn(notes: &mut Notes)
+    requires { ArePlans notes.old }
+    ensures torn { notes.new ≡ spec.torn_notes notes.old }
+    ensures plans { ArePlans notes.new }
+{
+    notes.torn = notes.plan;
+    notes.plan = None;
 }
 
 /// Turns a card on that is off.
 fn turn_on<P: Pages>(desk: &mut Desk<'_, P>, out: &mut Text)
     requires off { IsIccOff desk.old.icc }
-    requires plans { ArePlans desk.old.plan desk.old.next }
+    requires plans { ArePlans desk.old.notes }
     ensures turn { (kept : List Decided) (pending : Option Decided) → IccOff desk.old.icc kept pending
-        → (with_it : Bool) × IsTurn desk.new.icc desk.new.plan desk.new.next out.new.items
-        (spec.desk_powered desk.old.icc.image with_it (spec.plan_of desk.old.plan desk.old.next) kept pending) }
-    ensures plans { ArePlans desk.new.plan desk.new.next }
+        → (with_it : Bool) × IsTurn desk.new.icc desk.new.notes out.new.items (spec.desk_powered desk.old.icc.image with_it desk.old.notes kept pending) }
+    ensures plans { ArePlans desk.new.notes }
     ensures image { desk.new.icc.image ≡ desk.old.icc.image }
 {
-    desk.plan = plan_of(desk.plan, desk.next);
-    desk.next = None;
-    match desk.icc.power_up(desk.plan) {
+    take_plan(&mut desk.notes);
+    match desk.icc.power_up(desk.notes.plan) {
         Ok(()) => tell_power(desk.icc.image(), desk.icc.totals(), out),
         Err(Gone) => {
-            desk.plan = None;
+            note_torn(&mut desk.notes);
             tell(out, b"power torn\n");
         }
     }
@@ -108,11 +119,11 @@ fn turn_on<P: Pages>(desk: &mut Desk<'_, P>, out: &mut Text)
 
 /// Turns a card off, where it is on.
 fn turn_off<P: Pages>(desk: &mut Desk<'_, P>)
-    requires stands { (side : Side) × SideStands desk.old.icc desk.old.plan side }
-    ensures stands { (side : Side) → SideStands desk.old.icc desk.old.plan side
-        → SideStands desk.new.icc desk.new.plan (spec.off_side side) }
+    requires stands { (side : Side) × SideStands desk.old.icc desk.old.notes.plan side }
+    ensures stands { (side : Side) → SideStands desk.old.icc desk.old.notes.plan side
+        → SideStands desk.new.icc desk.new.notes.plan (spec.off_side side) }
     ensures off { IsIccOff desk.new.icc }
-    ensures plans { (desk.new.plan ≡ desk.old.plan) × (desk.new.next ≡ desk.old.next) }
+    ensures notes { desk.new.notes ≡ desk.old.notes }
     ensures image { desk.new.icc.image ≡ desk.old.icc.image }
 {
     if !desk.icc.is_on() {
@@ -134,19 +145,19 @@ fn tell_answer(answer: &[u8], out: &mut Text)
 /// Gives a command to a card that is on.
 fn command_on<P: Pages>(desk: &mut Desk<'_, P>, command: &[u8], out: &mut Text)
     requires on { has_power desk.old.icc ≡ true }
-    requires plans { ArePlans desk.old.plan desk.old.next }
-    ensures turn { (session : List Exchange) (ds : List Decided) (made : ℕ) → IccOn desk.old.icc session ds desk.old.plan made
-        → IsTurn desk.new.icc desk.new.plan desk.new.next out.new.items
-        (spec.commanded desk.old.icc.image session ds made desk.old.plan desk.old.next command.now
-        (cut_of desk.old.plan made (card_answer desk.old.icc.image ds session command.now).new)) }
-    ensures plans { ArePlans desk.new.plan desk.new.next }
+    requires plans { ArePlans desk.old.notes }
+    ensures turn { (session : List Exchange) (ds : List Decided) (made : ℕ) → IccOn desk.old.icc session ds desk.old.notes.plan made
+        → IsTurn desk.new.icc desk.new.notes out.new.items
+        (spec.commanded desk.old.icc.image session ds made desk.old.notes command.now
+        (cut_of desk.old.notes.plan made (card_answer desk.old.icc.image ds session command.now).new)) }
+    ensures plans { ArePlans desk.new.notes }
     ensures image { desk.new.icc.image ≡ desk.old.icc.image }
 {
     let mut answer = Answer::new();
     match desk.icc.process(command, &mut answer) {
         Ok(()) => tell_answer(answer.as_slice(), out),
         Err(Gone) => {
-            desk.plan = None;
+            note_torn(&mut desk.notes);
             tell(out, b"< torn\n");
         }
     }
@@ -154,10 +165,10 @@ fn command_on<P: Pages>(desk: &mut Desk<'_, P>, command: &[u8], out: &mut Text)
 
 /// Gives a card a command.
 fn give<P: Pages>(desk: &mut Desk<'_, P>, command: &[u8], out: &mut Text)
-    requires plans { ArePlans desk.old.plan desk.old.next }
-    ensures turn { (side : Side) → SideStands desk.old.icc desk.old.plan side
-        → IsTurn desk.new.icc desk.new.plan desk.new.next out.new.items (spec.command_turn desk.old.icc.image (at_of side desk.old.plan desk.old.next) command.now side) }
-    ensures plans { ArePlans desk.new.plan desk.new.next }
+    requires plans { ArePlans desk.old.notes }
+    ensures turn { (side : Side) → SideStands desk.old.icc desk.old.notes.plan side
+        → IsTurn desk.new.icc desk.new.notes out.new.items (spec.command_turn desk.old.icc.image desk.old.notes command.now side) }
+    ensures plans { ArePlans desk.new.notes }
     ensures image { desk.new.icc.image ≡ desk.old.icc.image }
 {
     if !desk.icc.is_on() {
@@ -168,54 +179,135 @@ fn give<P: Pages>(desk: &mut Desk<'_, P>, command: &[u8], out: &mut Text)
 
 /// Plans a tear for the next power-up, and says the line again.
 fn plan_tear<P: Pages>(desk: &mut Desk<'_, P>, tear: Tear, line: &[u8], out: &mut Text)
-    requires plans { ArePlans desk.old.plan desk.old.next }
+    requires plans { ArePlans desk.old.notes }
     requires tear { IsTrue (is_plan (Some tear)) }
     requires short { length line.now ≤ 8191 }
-    ensures turn { (side : Side) → SideStands desk.old.icc desk.old.plan side
-        → IsTurn desk.new.icc desk.new.plan desk.new.next out.new.items (spec.pull_turn (at_of side desk.old.plan desk.old.next) line.now tear) }
-    ensures plans { ArePlans desk.new.plan desk.new.next }
+    ensures turn { (side : Side) → SideStands desk.old.icc desk.old.notes.plan side
+        → IsTurn desk.new.icc desk.new.notes out.new.items (spec.pull_turn (at_of side desk.old.notes) line.now tear) }
+    ensures plans { ArePlans desk.new.notes }
     ensures image { desk.new.icc.image ≡ desk.old.icc.image }
 {
-    desk.next = Some(tear);
+    desk.notes.next = Some(tear);
     tell(out, line);
     append(out, b"\n");
 }
 
 /// Turns a card off, where it is on, and on.
 fn power<P: Pages>(desk: &mut Desk<'_, P>, out: &mut Text)
-    requires stands { (side : Side) × SideStands desk.old.icc desk.old.plan side }
-    requires plans { ArePlans desk.old.plan desk.old.next }
-    ensures turn { (side : Side) → SideStands desk.old.icc desk.old.plan side
-        → (with_it : Bool) × IsTurn desk.new.icc desk.new.plan desk.new.next out.new.items
-        (spec.power_turn desk.old.icc.image with_it (spec.plan_of desk.old.plan desk.old.next) side) }
-    ensures plans { ArePlans desk.new.plan desk.new.next }
+    requires stands { (side : Side) × SideStands desk.old.icc desk.old.notes.plan side }
+    requires plans { ArePlans desk.old.notes }
+    ensures turn { (side : Side) → SideStands desk.old.icc desk.old.notes.plan side
+        → (with_it : Bool) × IsTurn desk.new.icc desk.new.notes out.new.items (spec.power_turn desk.old.icc.image with_it desk.old.notes side) }
+    ensures plans { ArePlans desk.new.notes }
     ensures image { desk.new.icc.image ≡ desk.old.icc.image }
 {
     turn_off(desk);
     turn_on(desk, out);
 }
 
-/// Answers what a line asks.
-fn answer_word<P: Pages>(desk: &mut Desk<'_, P>, word: Word, line: &[u8], out: &mut Text)
-    requires stands { (side : Side) × SideStands desk.old.icc desk.old.plan side }
-    requires plans { ArePlans desk.old.plan desk.old.next }
-    requires tear { CanBePlanned word }
+/// Has the card do what a line says.
+fn obey<P: Pages>(desk: &mut Desk<'_, P>, order: &Order, line: &[u8], out: &mut Text)
+    requires stands { (side : Side) × SideStands desk.old.icc desk.old.notes.plan side }
+    requires plans { ArePlans desk.old.notes }
+    requires tear { CanBeDone order.now }
     requires short { length line.now ≤ 8191 }
-    ensures turn { (side : Side) → SideStands desk.old.icc desk.old.plan side
-        → (with_it : Bool) × IsTurn desk.new.icc desk.new.plan desk.new.next out.new.items
-        (spec.turn_by desk.old.icc.image with_it (at_of side desk.old.plan desk.old.next) line.now word) }
-    ensures plans { ArePlans desk.new.plan desk.new.next }
+    ensures turn { (side : Side) → SideStands desk.old.icc desk.old.notes.plan side
+        → (with_it : Bool) × IsTurn desk.new.icc desk.new.notes out.new.items
+        (spec.order_turn desk.old.icc.image with_it (at_of side desk.old.notes) line.now order.now) }
+    ensures plans { ArePlans desk.new.notes }
     ensures image { desk.new.icc.image ≡ desk.old.icc.image }
 {
-    match word {
-        Word::Power => power(desk, out),
-        Word::Off => {
+    match order {
+        Order::Power => power(desk, out),
+        Order::Off => {
             turn_off(desk);
             tell(out, b"off\n");
         }
-        Word::Command(command) => give(desk, command.as_slice(), out),
-        Word::Pull(tear) => plan_tear(desk, tear, line, out),
-        Word::Other => tell(out, b"?\n"),
+        Order::Command(command) => give(desk, command.as_slice(), out),
+        Order::Pull(tear) => plan_tear(desk, *tear, line, out),
+    }
+}
+
+/// Tells the state of a card that is off, as a power-up without a plan finds it. What it finds is what the next one finds.
+fn tell_found<P: Pages>(desk: &mut Desk<'_, P>, text: &mut Vec<u8>) -> Result<(), AllocError>
+    requires off { IsIccOff desk.old.icc }
+    ensures turn { OnOk result ((kept : List Decided) (pending : Option Decided) → IccOff desk.old.icc kept pending
+        → (with_it : Bool) × IsTurn desk.new.icc desk.new.notes text.new.items (spec.state_turn desk.old.icc.image with_it desk.old.notes (spec.IsOff kept pending))) }
+    ensures notes { desk.new.notes ≡ desk.old.notes }
+    ensures image { desk.new.icc.image ≡ desk.old.icc.image }
+{
+    match desk.icc.power_up(None) {
+        Ok(()) => {
+            tell_state(text, desk.icc.totals())?;
+            desk.icc.power_off();
+            Ok(())
+        }
+        Err(Gone) => unreachable!(),
+    }
+}
+
+/// Tells the state of a card.
+fn tell_card<P: Pages>(desk: &mut Desk<'_, P>, text: &mut Vec<u8>) -> Result<(), AllocError>
+    requires stands { (side : Side) × SideStands desk.old.icc desk.old.notes.plan side }
+    ensures turn { OnOk result ((side : Side) → SideStands desk.old.icc desk.old.notes.plan side
+        → (with_it : Bool) × IsTurn desk.new.icc desk.new.notes text.new.items (spec.state_turn desk.old.icc.image with_it desk.old.notes side)) }
+    ensures notes { desk.new.notes ≡ desk.old.notes }
+    ensures image { desk.new.icc.image ≡ desk.old.icc.image }
+{
+    if desk.icc.is_on() {
+        return tell_state(text, desk.icc.totals());
+    }
+    tell_found(desk, text)
+}
+
+/// Tells what is asked.
+fn tell_asked<P: Pages>(
+    desk: &mut Desk<'_, P>,
+    question: Question,
+    text: &mut Vec<u8>,
+) -> Result<(), AllocError>
+    requires stands { (side : Side) × SideStands desk.old.icc desk.old.notes.plan side }
+    ensures turn { OnOk result ((side : Side) → SideStands desk.old.icc desk.old.notes.plan side
+        → (with_it : Bool) × IsTurn desk.new.icc desk.new.notes text.new.items
+        (spec.asked_turn desk.old.icc.image with_it (at_of side desk.old.notes) question)) }
+    ensures notes { desk.new.notes ≡ desk.old.notes }
+    ensures image { desk.new.icc.image ≡ desk.old.icc.image }
+{
+    match question {
+        Question::State => tell_card(desk, text),
+        Question::Torn => {
+            let mut line = LineText::new();
+            tell_torn(&mut line, desk.notes.torn);
+            put_line(text, line.as_slice())
+        }
+    }
+}
+
+/// Answers what a line says.
+fn answer_word<P: Pages>(
+    desk: &mut Desk<'_, P>,
+    word: &Word,
+    line: &[u8],
+    text: &mut Vec<u8>,
+) -> Result<(), AllocError>
+    requires stands { (side : Side) × SideStands desk.old.icc desk.old.notes.plan side }
+    requires plans { ArePlans desk.old.notes }
+    requires tear { spec.CanBePlanned word.now }
+    requires short { length line.now ≤ 8191 }
+    ensures turn { OnOk result ((side : Side) → SideStands desk.old.icc desk.old.notes.plan side
+        → (with_it : Bool) × IsTurn desk.new.icc desk.new.notes text.new.items
+        (spec.turn_by desk.old.icc.image with_it (at_of side desk.old.notes) line.now word.now)) }
+    ensures plans { ArePlans desk.new.notes }
+    ensures image { desk.new.icc.image ≡ desk.old.icc.image }
+{
+    match word {
+        Word::Does(order) => {
+            let mut told = LineText::new();
+            obey(desk, order, line, &mut told);
+            put_line(text, told.as_slice())
+        }
+        Word::Asks(question) => tell_asked(desk, *question, text),
+        Word::Other => put_line(text, b"?\n"),
     }
 }
 
@@ -224,29 +316,24 @@ pub fn answer_line<P: Pages>(
     alloc: Global,
     desk: &mut Desk<'_, P>,
     line: &[u8],
-    out: &mut Text,
+    text: &mut Vec<u8>,
 ) -> Result<(), AllocError>
-    requires stands { (at : At) × DeskStands desk.old.icc desk.old.plan desk.old.next at }
-    requires plans { ArePlans desk.old.plan desk.old.next }
+    requires stands { (at : At) × DeskStands desk.old.icc desk.old.notes at }
+    requires plans { ArePlans desk.old.notes }
     requires short { length line.now ≤ 8191 }
-    ensures turn { OnOk result ((at : At) → DeskStands desk.old.icc desk.old.plan desk.old.next at
-        → (with_it : Bool) × IsTurn desk.new.icc desk.new.plan desk.new.next out.new.items (spec.turn desk.old.icc.image with_it at line.now)) }
-    ensures plans { ArePlans desk.new.plan desk.new.next }
+    ensures turn { OnOk result ((at : At) → DeskStands desk.old.icc desk.old.notes at
+        → (with_it : Bool) × IsTurn desk.new.icc desk.new.notes text.new.items (spec.turn desk.old.icc.image with_it at line.now)) }
+    ensures plans { ArePlans desk.new.notes }
     ensures image { desk.new.icc.image ≡ desk.old.icc.image }
 {
-    match word_of(alloc, line) {
-        Ok(word) => {
-            answer_word(desk, word, line, out);
-            Ok(())
-        }
-        Err(AllocError) => Err(AllocError),
-    }
+    let word = word_of(alloc, line)?;
+    answer_word(desk, &word, line, text)
 }
 
 impl<P: Pages> Party for Desk<'_, P> {
     ghost opening = { λ desk. card_opening };
 
-    ghost stands = { λ desk turns. HasAnswered desk.icc desk.plan desk.next turns };
+    ghost stands = { λ desk turns. HasAnswered desk.icc desk.notes turns };
 
     ghost talks = { λ desk turns. IsCardTalk desk.icc.image turns };
 
@@ -261,9 +348,7 @@ impl<P: Pages> Party for Desk<'_, P> {
         line: &[u8],
         text: &mut Vec<u8>,
     ) -> Result<Onward, AllocError> {
-        let mut told = LineText::new();
-        answer_line(alloc, self, line, &mut told)?;
-        put_line(text, told.as_slice())?;
+        answer_line(alloc, self, line, text)?;
         Ok(Onward::Rests)
     }
 

@@ -5,9 +5,12 @@
 mod canned;
 mod desk;
 mod document;
+mod notes;
+mod state_text;
 #[cfg(test)]
 mod tests;
 mod top;
+mod torn_text;
 mod word;
 
 use emv_ports::{Held, MemoryPages, StdinSource, StdoutSink};

@@ -1,3 +1,4 @@
+mod asked;
 mod canned;
 
 use crate::top::run;

@@ -1,4 +1,4 @@
-//! What a line asks of a card in a reader.
+//! What a line says to a card in a reader.
 ghost use Rattle.std.specs.Prelude.{◌≡◌, ◌≤◌, IfOk, IfSome, IsTrue};
 ghost use Rattle.hex.specs.Hex.{decode_of};
 ghost use Rattle.emv_ports.specs.Cut.{is_place};
@@ -16,17 +16,35 @@ use std::alloc::{AllocError, Global};
 /// A command has at most so many bytes (ISO/IEC 7816-3 section 12.1.1).
 const MOST_COMMAND: usize = 261;
 
-/// What a line asks.
+/// What a line has the card do.
 #[derive(Drop)]
-pub enum Word {
-    /// The card is turned on, and where it was on, off before.
+pub enum Order {
+    /// It is turned on, and where it was on, off before.
     Power,
     /// It is turned off.
     Off,
-    /// A command.
+    /// A command is given to it.
     Command(ArrayVec<u8, MOST_COMMAND>),
     /// The power is cut so, once, from its next power-up on.
     Pull(Tear),
+}
+
+/// What a line asks about the card, which it leaves as it is.
+#[derive(Clone, Copy, PartialEq, Eq, Debug)]
+pub enum Question {
+    /// Its counters, limits and logs.
+    State,
+    /// The plan that fired last.
+    Torn,
+}
+
+/// What a line says.
+#[derive(Drop)]
+pub enum Word {
+    /// The card is to do something.
+    Does(Order),
+    /// Something is asked.
+    Asks(Question),
     /// Something else.
     Other,
 }
@@ -90,7 +108,7 @@ fn command_of(bytes: &[u8]) -> Word
     }
     let mut command = ArrayVec::new();
     append(&mut command, bytes);
-    Word::Command(command)
+    Word::Does(Order::Command(command))
 }
 
 /// The command that a text spells in hexadecimal.
@@ -111,22 +129,39 @@ fn pull_in(text: &[u8]) -> Word
     ensures asked { CanBePlanned result }
 {
     match tear_in(text) {
-        Some(tear) => Word::Pull(tear),
+        Some(tear) => Word::Does(Order::Pull(tear)),
         None => Word::Other,
     }
 }
 
-/// What a line asks.
+/// What a line asks that is a word by itself.
+fn plain_word(line: &[u8]) -> Option<Word>
+    ensures exact { result ≡ spec.plain_word line.now }
+    ensures asked { IfSome result CanBePlanned }
+{
+    if line == b"power".as_slice() {
+        return Some(Word::Does(Order::Power));
+    }
+    if line == b"off".as_slice() {
+        return Some(Word::Does(Order::Off));
+    }
+    if line == b"state".as_slice() {
+        return Some(Word::Asks(Question::State));
+    }
+    if line == b"torn".as_slice() {
+        return Some(Word::Asks(Question::Torn));
+    }
+    None
+}
+
+/// What a line says.
 #[tactic(auto, unfolding(crate::specs::Words::line_word))]
 pub fn word_of(alloc: Global, line: &[u8]) -> Result<Word, AllocError>
     ensures exact { IfOk result (λ word. word ≡ spec.line_word line.now) }
     ensures asked { IfOk result CanBePlanned }
 {
-    if line == b"power".as_slice() {
-        return Ok(Word::Power);
-    }
-    if line == b"off".as_slice() {
-        return Ok(Word::Off);
+    if let Some(word) = plain_word(line) {
+        return Ok(word);
     }
     if let Some(text) = line.strip_prefix(b"pull ") {
         return Ok(pull_in(text));

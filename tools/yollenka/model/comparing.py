@@ -13,6 +13,11 @@ def answers_of(program, text, lines):
     return answers if ended.returncode == 0 else [*answers, f"status {ended.returncode}"]
 
 
+def lines_of(answers):
+    """Answers of one or more lines as the lines that are written."""
+    return "\n".join(answers).split("\n")
+
+
 def first_differing(answers, wanted):
     """The number, from 0, of the first answer that isn't the wanted one, or None."""
     pairs = enumerate(zip_longest(answers, wanted))
@@ -35,13 +40,13 @@ def fewest(lines, differs):
 
 
 class Comparison:
-    """A program and the model on a document with lines; `model` gives the answers to lines behind a document."""
+    """A program and the model on a document with lines; `model` gives the lines of the answers to lines behind a document."""
 
     def __init__(self, program, model, text):
         self.program, self.model, self.text = program, model, text
 
     def differing(self, lines, wanted=None):
-        """The first line that is answered differently: its number, the program's answer and the model's; or None."""
+        """The first line of the answers that differs: its number, the program's and the model's; or None."""
         answers = answers_of(self.program, self.text, lines)
         wanted = self.model(self.text, lines) if wanted is None else wanted
         at = first_differing(answers, wanted)

@@ -7,6 +7,19 @@ from .memory import Lost
 PULL = re.compile(r"pull (\d{1,3}) (?:(before|within) (\d{1,3})|release)")
 COMMAND = re.compile(r"(?:[0-9A-Fa-f]{2}){1,261}")
 NUMBERS = range(256)
+# A card's state, application by application, in the words of docs/use/reader.md.
+COUNTERS, LIMITS = ("counter", "last_online", "count", "sum", "sum_two", "tries"), ("count_limit", "sum_limit", "limit_two")
+
+
+def state_lines(state):
+    """The lines of a card's state, with newlines between."""
+    lines = [f"state {len(state['apps'])}"]
+    for number, app in enumerate(state["apps"]):
+        fields = [("app", number), *((name, app[name]) for name in COUNTERS), ("flags", app["blocked"] + 2 * app["auth_failed"])]
+        fields += [("blocked", str(app["blocked"]).lower()), ("card_blocked", str(bool(state["blocked"])).lower())]
+        fields += [*((name, app[name]) for name in LIMITS), ("log", app["log_max"]), *(("row", row.hex()) for row in app["log"])]
+        lines.append(" ".join(f"{name} {value}" for name, value in fields))
+    return "\n".join(lines)
 
 
 def place_in(line):
@@ -21,10 +34,10 @@ def place_in(line):
 
 
 class CardAtLines:
-    """Answers line by line for a card that has decided nothing yet, and is off."""
+    """Answers line by line for a card that has decided nothing yet, and is off. An answer of several lines has newlines within."""
 
     def __init__(self, image):
-        self.card, self.is_on, self.plan, self.taken = Card(image), False, None, None
+        self.card, self.is_on, self.plan, self.taken, self.fired = Card(image), False, None, None, None
 
     def answer(self, line):
         """The answer to a line."""
@@ -33,6 +46,10 @@ class CardAtLines:
         if line == "off":
             self.is_on = False
             return "off"
+        if line == "state":
+            return self.state()
+        if line == "torn":
+            return self.torn()
         if place := place_in(line):
             self.plan = place
             return line
@@ -54,8 +71,40 @@ class CardAtLines:
             return "power torn"
         return f"power {self.card.counters()}"
 
+    def state(self):
+        """The card's state; of a card that is off, as a power-up finds it."""
+        if not self.is_on:
+            self.card.power_up()
+        return state_lines(self.card.state)
+
+    def torn(self):
+        """The plan that fired last."""
+        if self.fired is None:
+            return "?"
+        commit, at, write = (self.fired[name] for name in ("commit", "at", "write"))
+        return f"torn {commit} {at}" + ("" if write is None else f" {write}")
+
     def pulled(self):
         """The plan has fired; one that came behind it waits for the next power-up."""
-        self.is_on = False
+        self.is_on, self.fired = False, self.taken
         if self.plan is self.taken:
             self.plan = None
+
+
+class CannedAtLines:
+    """Answers line by line for a card of canned answers, which is off."""
+
+    def __init__(self, answers):
+        self.answers, self.left = answers, None
+
+    def answer(self, line):
+        """The answer to a line."""
+        if line in ("power", "off"):
+            self.left = list(self.answers) if line == "power" else None
+            return "power canned" if line == "power" else "off"
+        if self.left is None or not COMMAND.fullmatch(line):
+            return "?"
+        if not self.left:
+            self.left = None
+            return "< gone"
+        return f"< {self.left.pop(0).hex() or '-'}"

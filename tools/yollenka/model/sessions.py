@@ -2,15 +2,18 @@
 from yollenka.scenarios import document
 
 from .commands import Commands
+from .comparing import lines_of
 from .document import Refused, cards_of
 from .draw import ISSUER, Draw
-from .reader import CardAtLines
+from .reader import CannedAtLines, CardAtLines
 
 # How many lines there are for a card, and how many for one that lives long. In a marathon so many commands decide, behind
 # those that lead to the first of them.
 MOST_LINES, LONG, MARATHON, LEADING = 60, 250, 256, 40
 NO_LINES = ["", "Power", "power ", "off ", "pull 1 before 0", "pull 256 release", "pull 1 within 256", "pull 1 before", "pull release",
             "pull 1 after 1", "00a4040", "00 a4 04 00", "0x00a40400", "zz", "document 3", "> 00a40400", "pull 1 release 1"]
+
+ASKED = ["state", "state", "torn"]
 
 
 class Sessions:
@@ -51,13 +54,16 @@ class Sessions:
         draw, what = self.draw, self.draw.below(120)
         waits = self.card.plan is not self.card.taken
         if not self.card.is_on:
-            return draw.one_of(["power"] * 8 + [self.pull(), self.pull(0), "pull 0 before 1", "off", "00a4040007a000000003101000"])
+            further = [self.pull(), self.pull(0), "pull 0 before 1", "off", "00a4040007a000000003101000", "state", "torn"]
+            return draw.one_of(["power"] * 8 + further)
         if what < (20 if waits else 3):
             return "power"
         if 30 <= what < (36 if draw.calm else 40) and not waits:
             return self.pull()
         if what == 50:
             return draw.one_of(["off", *NO_LINES])
+        if what in (51, 52):
+            return draw.one_of(ASKED)
         return draw.text(self.commands.command())
 
     def talk(self, most=MOST_LINES):
@@ -89,15 +95,32 @@ class Sessions:
         return self.talk()
 
 
+class CannedSessions:
+    """Draws a card of canned answers and the lines that it is given, as the model answers them."""
+
+    def __init__(self, seed):
+        draw = Draw(seed)
+        answers = [draw.octets(draw.one_of([0, 1, 2, 2, 3, 20, 258])) for _ in range(draw.one_of([0, 1, 2, 5, 12]))]
+        self.text = document({"issuer": ISSUER, "card": [{"name": "c0", "canned": [answer.hex() for answer in answers]}]})
+        lines = ["power"] * 3 + ["off", "pull 1 release", *ASKED, *NO_LINES]
+        self.lines = [draw.one_of(lines) if draw.now(1, 3) else draw.octets(draw.one_of([1, 4, 5, 261])).hex() for _ in range(MOST_LINES)]
+        card = CannedAtLines(answers)
+        self.answers = [card.answer(line) for line in self.lines]
+
+
 def sessions(seed, number):
-    """The sessions of a number under a seed: five of thirty are long, and one is a marathon."""
-    drawn = Sessions(f"{seed}/{number}")
+    """The sessions of a number under a seed: five of thirty are long, one is a marathon, and one is of a card of canned answers."""
+    seed = f"{seed}/{number}"
+    if number % 30 == 28:
+        return CannedSessions(seed)
+    drawn = Sessions(seed)
     if number % 30 == 29:
         return drawn.marathon()
     return drawn.long() if number % 6 == 0 else drawn.talk()
 
 
 def answers_to(text, lines):
-    """What the model answers to these lines on a document's first card."""
-    card = CardAtLines(cards_of(text)[0])
-    return [card.answer(line) for line in lines]
+    """The lines that the model answers to these lines on a document's first card."""
+    card = cards_of(text)[0]
+    at_lines = CardAtLines(card) if card["canned"] is None else CannedAtLines(card["canned"])
+    return lines_of(map(at_lines.answer, lines))

@@ -3,6 +3,5 @@ use Rattle.card_at_reader.proofs.desk.power.Goals as goal
 
 pub returns-clause-turn : goal.returns-clause-turn
 returns-clause-turn g c =
-    power_here c.args.desk.now.icc c.turn_off.new.desk.icc c.turn_on.new.desk.icc c.args.desk.now.plan c.args.desk.now.next
-    c.turn_off.new.desk.plan c.turn_off.new.desk.next c.turn_on.new.desk.plan c.turn_on.new.desk.next c.turn_on.new.out.items
-    c.turn_off.ensures.image c.turn_off.ensures.plans.0 c.turn_off.ensures.plans.1 c.turn_off.ensures.stands c.turn_on.ensures.turn
+    power_here c.args.desk.now.icc c.turn_off.new.desk.icc c.turn_on.new.desk.icc c.args.desk.now.notes c.turn_off.new.desk.notes c.turn_on.new.desk.notes c.turn_on.new.out.items
+    c.turn_off.ensures.image c.turn_off.ensures.notes c.turn_off.ensures.stands c.turn_on.ensures.turn
