@@ -1,12 +1,13 @@
 -- A dialogue that is over is a trace that is the same as its terminal's.
 use Rattle.std.proofs.Common.{◌≡◌, ◌⊎◌, Ok, inl, inr, ℕ, Bool, true, false, List, [], ◌∷◌, ◌++◌, Option, Some, None, refl, sym, ap, subst, ◌∙◌, append_assoc, if◌then◌else◌}
-use Rattle.std.proofs.lemmas.List.{append-nil}
 use Rattle.std.specs.Io.KnownBytes.{Appends, Consumes}
 use Rattle.emv_dict.specs.declared.ending.Ending.{Ending}
 use Rattle.kernel.specs.Dialogue.{dialogue}
 use Rattle.kernel.specs.Reply.{Reply, Deed}
-use Rattle.kernel.specs.Reply as said
-use Rattle.line_talk.proofs.Talking.{answers_more, lines_more, onward_more}
+use Rattle.kernel.specs.Reply as deeds
+use Rattle.std.proofs.lemmas.Slice.Eq.{bytes_eq-Decides}
+use Rattle.std.specs.Str.{bytes_eq}
+use Rattle.line_talk.proofs.Talking.{onward_more}
 use Rattle.line_talk.specs.Talk as talk
 use Rattle.line_talk.specs.Talk.{EndsDocument, EndsWith, HasTalked, Served, Sides, TalkEnds, WritesFault, WritesLast}
 use Rattle.line_talk.specs.Turns.{Opening, Turn, answers_of, lines_spoken, may_end, onward_behind}
@@ -24,12 +25,12 @@ use Rattle.trace_check.specs.Laws.{IsDialogue, over, answered}
 use Rattle.trace_check.specs.Texts.{entry_of_text, entry_text}
 use Rattle.trace_check.specs.Verdicts.{verdict_on}
 use Rattle.trace_check.specs.declared.entry.Entry.{Entry}
-use Rattle.terminal_at_reader.proofs.Entries.{asked_written, heard_ask, heard_both, heard_exchange, written_ask, written_both, written_exchange}
 use Rattle.terminal_at_reader.specs.Document.{ReadsTerminal}
-use Rattle.terminal_at_reader.specs.Talk.{IsTerminalTalk, TerminalTalked, TerminalTurn, asked_line, begins, goes, entries_heard, line_of, onward_at, onward_of, reply_if_entry, terminal_opening, terminal_turn, turn_with, entries_written}
+use Rattle.terminal_at_reader.specs.Hearing.{fault_line, understood, unread}
+use Rattle.terminal_at_reader.specs.Talk.{AreEntries, IsTerminalTalk, TerminalTalked, TerminalTurn, ask_at, asked_line, asked_turn, asks, asks_again, begins, goes, goes_on, onward_at, onward_of, reply_if_entry, terminal_opening, terminal_turn, told_of, turn_with, want_line}
 use Rattle.terminal_at_reader.specs.Top.{HadDialogue, IsOnly, IsTraced, terminal_programme}
 
-module _ (outset : Outset) where
+module _ (iso : Bool) (outset : Outset) where
   -- what was asked up to these replies, each time followed by the reply
   data Exchanges : List Reply → List Entry → Type 0 where
     none : Exchanges [] []
@@ -46,116 +47,125 @@ module _ (outset : Outset) where
       subst (λ (all : List Entry). IsDialogue outset [] all) (sym (append_assoc earlier (ask ∷ entry ∷ []) later))
       (joined before earlier exchanges (ask ∷ entry ∷ later) (answered before entry reply later told awaited is))
 
-  -- a talk as exchanges: what was read, and what was written with what is asked next
+  -- a talk as exchanges: the entries of its lines, with what is asked next
   record AsExchanges (turns : List Turn) (replies : List Reply) : Type 0 where
     entries : List Entry
     exchanges : Exchanges replies entries
-    read_is : lines_spoken turns ≡ entries_heard entries
-    told_is : asked_line outset [] ++ answers_of turns ≡ entries_written entries ++ asked_line outset replies
+    are : AreEntries iso (asked_line iso outset []) turns (entries ++ ask_at outset replies ∷ [])
     onward_is : onward_behind (onward_at outset []) turns ≡ onward_at outset replies
 
   abbrev one_turn : List ℕ → TerminalTurn → Turn
   one_turn line turn = record { line = line; answer = turn.answer; onward = turn.onward }
 
   module _ (turns : List Turn) (replies : List Reply) (line : List ℕ) (far : AsExchanges turns replies) where
+    -- what turn it may be
+    abbrev Behind : TerminalTurn → Type 0
+    Behind turn =
+        (onward_behind (onward_at outset []) (turns ++ one_turn line turn ∷ []) ≡ Stuck → ⊥) → AsExchanges (turns ++ one_turn line turn ∷ []) turn.after
+
     -- one more reply was taken
-    taken : (entry : Entry) (reply : Reply) → entry_of_text line ≡ Some entry → reply_of_entry entry ≡ Some reply → is_awaited (dialogue outset replies).deed reply ≡ true
-        → AsExchanges (turns ++ record { line = line; answer = asked_line outset (replies ++ reply ∷ []); onward = onward_at outset (replies ++ reply ∷ []) } ∷ []) (replies ++ reply ∷ [])
-    taken entry reply is told awaited =
-        let ask = entry_of_standing outset (dialogue outset replies) in
-        let one : Turn = record { line = line; answer = asked_line outset (replies ++ reply ∷ []); onward = onward_at outset (replies ++ reply ∷ []) } in
+    taken : (said : Entry) (reply : Reply) → entry_of_text line ≡ Some said → reply_of_entry (understood iso said) ≡ Some reply
+        → is_awaited (dialogue outset replies).deed reply ≡ true
+        → AsExchanges (turns ++ one_turn line (asked_turn iso outset (fault_line (unread iso said)) (replies ++ reply ∷ [])) ∷ []) (replies ++ reply ∷ [])
+    taken said reply is heard awaited =
+        let ask = ask_at outset replies in
+        let later = ask_at outset (replies ++ reply ∷ []) in
+        let one : Turn = one_turn line (asked_turn iso outset (fault_line (unread iso said)) (replies ++ reply ∷ [])) in
         record {
-          entries = far.entries ++ ask ∷ entry ∷ [];
-          exchanges = more replies far.entries far.exchanges entry reply told awaited;
-          read_is =
-              lines_more turns one ∙ ap (λ (t : List ℕ). t ++ (line ++ 10 ∷ [])) far.read_is ∙ ap (λ (t : List ℕ). entries_heard far.entries ++ (t ++ 10 ∷ [])) (text_is line entry is).0
-              ∙ sym (heard_both far.entries (ask ∷ entry ∷ []) ∙ ap (λ (t : List ℕ). entries_heard far.entries ++ t) (heard_exchange ask entry reply (asked_written outset replies) told));
-          told_is =
-              ap (λ (t : List ℕ). asked_line outset [] ++ t) (answers_more turns one) ∙ sym (append_assoc (asked_line outset []) (answers_of turns) one.answer)
-              ∙ ap (λ (t : List ℕ). t ++ one.answer) far.told_is
-              ∙ ap (λ (t : List ℕ). t ++ one.answer)
-              (sym (written_both far.entries (ask ∷ entry ∷ []) ∙ ap (λ (t : List ℕ). entries_written far.entries ++ t) (written_exchange ask entry reply (asked_written outset replies) told)));
+          entries = far.entries ++ ask ∷ understood iso said ∷ [];
+          exchanges = more replies far.entries far.exchanges (understood iso said) reply heard awaited;
+          are =
+              subst (λ (es : List Entry). AreEntries iso (asked_line iso outset []) (turns ++ one ∷ []) es)
+              (append_assoc far.entries (ask ∷ []) (understood iso said ∷ later ∷ []) ∙ sym (append_assoc far.entries (ask ∷ understood iso said ∷ []) (later ∷ [])))
+              (goes_on turns (far.entries ++ ask ∷ []) said later one far.are (text_is line said is).0 refl);
+          onward_is = onward_more (onward_at outset []) turns one;
+        }
+
+    -- what was asked was asked once more
+    again : bytes_eq line want_line ≡ true → AsExchanges (turns ++ one_turn line (asked_turn iso outset [] replies) ∷ []) replies
+    again is =
+        let one : Turn = one_turn line (asked_turn iso outset [] replies) in
+        record {
+          entries = far.entries;
+          exchanges = far.exchanges;
+          are = asks_again turns far.entries (ask_at outset replies) one far.are ((bytes_eq-Decides line want_line).0 is) refl;
           onward_is = onward_more (onward_at outset []) turns one;
         }
 
     stuck_is : (answer : List ℕ) → onward_behind (onward_at outset []) (turns ++ record { line = line; answer = answer; onward = Stuck } ∷ []) ≡ Stuck
     stuck_is answer = onward_more (onward_at outset []) turns (record { line = line; answer = answer; onward = Stuck })
 
-    by_awaited : (entry : Entry) (reply : Reply) → entry_of_text line ≡ Some entry → reply_of_entry entry ≡ Some reply → (awaited : Bool)
-        → is_awaited (dialogue outset replies).deed reply ≡ awaited
-        → (onward_behind (onward_at outset []) (turns ++ one_turn line (turn_with outset replies (Some reply)) ∷ []) ≡ Stuck → ⊥)
-        → AsExchanges (turns ++ one_turn line (turn_with outset replies (Some reply)) ∷ []) (turn_with outset replies (Some reply)).after
-    by_awaited entry reply is told true awaited goes_so = rw awaited (taken entry reply is told awaited)
-    by_awaited entry reply is told false awaited goes_so = absurd (goes_so (rw awaited (stuck_is talk.other_line)))
+    by_awaited : (said : Entry) (reply : Reply) → entry_of_text line ≡ Some said → reply_of_entry (understood iso said) ≡ Some reply → (awaited : Bool)
+        → is_awaited (dialogue outset replies).deed reply ≡ awaited → Behind (turn_with iso outset replies (fault_line (unread iso said)) (Some reply))
+    by_awaited said reply is heard true awaited goes_so = rw awaited (taken said reply is heard awaited)
+    by_awaited said reply is heard false awaited goes_so = absurd (goes_so (rw awaited (stuck_is talk.other_line)))
 
-    by_reply : (entry : Entry) → entry_of_text line ≡ Some entry → (reply : Option Reply) → reply_of_entry entry ≡ reply
-        → (onward_behind (onward_at outset []) (turns ++ one_turn line (turn_with outset replies reply) ∷ []) ≡ Stuck → ⊥)
-        → AsExchanges (turns ++ one_turn line (turn_with outset replies reply) ∷ []) (turn_with outset replies reply).after
-    by_reply entry is None told goes_so = absurd (goes_so (stuck_is talk.other_line))
-    by_reply entry is (Some reply) told goes_so = by_awaited entry reply is told (is_awaited (dialogue outset replies).deed reply) refl goes_so
+    by_reply : (said : Entry) → entry_of_text line ≡ Some said → (reply : Option Reply) → reply_of_entry (understood iso said) ≡ reply
+        → Behind (turn_with iso outset replies (fault_line (unread iso said)) reply)
+    by_reply said is None heard goes_so = absurd (goes_so (stuck_is talk.other_line))
+    by_reply said is (Some reply) heard goes_so = by_awaited said reply is heard (is_awaited (dialogue outset replies).deed reply) refl goes_so
 
-    by_entry : (entry : Option Entry) → entry_of_text line ≡ entry
-        → (onward_behind (onward_at outset []) (turns ++ one_turn line (turn_with outset replies (reply_if_entry entry)) ∷ []) ≡ Stuck → ⊥)
-        → AsExchanges (turns ++ one_turn line (turn_with outset replies (reply_if_entry entry)) ∷ []) (turn_with outset replies (reply_if_entry entry)).after
+    by_entry : (said : Option Entry) → entry_of_text line ≡ said → Behind (turn_with iso outset replies (told_of iso said) (reply_if_entry iso said))
     by_entry None is goes_so = absurd (goes_so (stuck_is talk.other_line))
-    by_entry (Some entry) is goes_so = by_reply entry is (reply_of_entry entry) refl goes_so
+    by_entry (Some said) is goes_so = by_reply said is (reply_of_entry (understood iso said)) refl goes_so
+
+    by_line : (test : Bool) → bytes_eq line want_line ≡ test
+        → Behind (if test then asked_turn iso outset [] replies else turn_with iso outset replies (told_of iso (entry_of_text line)) (reply_if_entry iso (entry_of_text line)))
+    by_line true is goes_so = again is
+    by_line false other goes_so = by_entry (entry_of_text line) refl goes_so
 
   never_both : (onward : Onward) → onward ≡ Awaits → onward ≡ Stuck → ⊥
   never_both onward awaits stuck = let clash : Awaits ≡ Stuck = sym awaits ∙ stuck in cc clash
 
-  as_exchanges : (turns : List Turn) (replies : List Reply) → TerminalTalked outset turns replies → (onward_behind (onward_at outset []) turns ≡ Stuck → ⊥) → AsExchanges turns replies
+  as_exchanges : (turns : List Turn) (replies : List Reply) → TerminalTalked iso outset turns replies → (onward_behind (onward_at outset []) turns ≡ Stuck → ⊥) → AsExchanges turns replies
   unfolding terminal_turn onward_behind
   as_exchanges turns replies begins goes_so = record {
     entries = [];
     exchanges = none;
-    read_is = refl;
-    told_is = append-nil (asked_line outset []);
+    are = asks (ask_at outset []) refl;
     onward_is = refl;
   }
   as_exchanges turns replies (goes before earlier line talked awaits) goes_so =
-      by_entry before earlier line (as_exchanges before earlier talked (never_both (onward_behind (onward_at outset []) before) awaits)) (entry_of_text line) refl goes_so
+      by_line before earlier line (as_exchanges before earlier talked (never_both (onward_behind (onward_at outset []) before) awaits)) (bytes_eq line want_line) refl goes_so
 
   -- a dialogue that is over, whole
-  ending_of : (deed : Deed) → onward_of deed ≡ Over → (ending : Ending) × (deed ≡ said.Over ending)
-  ending_of (said.ToCard command) over_is = absurd (cc over_is)
-  ending_of (said.ToHost message) over_is = absurd (cc over_is)
-  ending_of (said.Over ending) over_is = (ending, refl)
+  ending_of : (deed : Deed) → onward_of deed ≡ Over → (ending : Ending) × (deed ≡ deeds.Over ending)
+  ending_of (deeds.ToCard command) over_is = absurd (cc over_is)
+  ending_of (deeds.ToHost message) over_is = absurd (cc over_is)
+  ending_of (deeds.Over ending) over_is = (ending, refl)
 
-  over_is_whole : (lane : LaneData) → IsOnly lane outset → (s : Sides) (turns : List Turn) → HasTalked (IsTerminalTalk outset) (terminal_opening outset) s.first s.left s.before s.held turns
+  over_is_whole : (lane : LaneData) → lane.iso ≡ iso → IsOnly lane outset → (s : Sides) (turns : List Turn)
+      → HasTalked (IsTerminalTalk iso outset) (terminal_opening iso outset) s.first s.left s.before s.held turns
       → onward_behind (onward_at outset []) turns ≡ Over → IsTraced lane s
-  over_is_whole lane only s turns talked ended =
+  over_is_whole lane dialect only s turns talked ended =
       let far = as_exchanges turns talked.talks.0 talked.talks.1 (λ stuck. let clash : Over ≡ Stuck = sym ended ∙ stuck in cc clash) in
       let replies = talked.talks.0 in
-      let ask = entry_of_standing outset (dialogue outset replies) in
+      let ask = ask_at outset replies in
       let ending = ending_of (dialogue outset replies).deed (sym far.onward_is ∙ ended) in
       let whole = joined replies far.entries far.exchanges (ask ∷ []) (over replies ending.0 ending.1) in
       record {
+        first = asked_line iso outset [];
+        turns = turns;
         entries = far.entries ++ ask ∷ [];
+        are = subst (λ (i : Bool). AreEntries i (asked_line iso outset []) turns (far.entries ++ ask ∷ [])) (sym dialect) far.are;
         same =
             ap (λ (ps : List Planned). verdict_on lane.settings ps (far.entries ++ ask ∷ [])) only.one
             ∙ (same_is_dialogue (record { settings = lane.settings; purchase = only.planned.purchase }) (far.entries ++ ask ∷ [])).1
             (subst (λ (d : Outset). IsDialogue d [] (far.entries ++ ask ∷ [])) only.outset_is whole);
-        taken =
-            subst (λ (t : List ℕ). Consumes s.first s.left t)
-            (far.read_is ∙ sym (heard_both far.entries (ask ∷ []) ∙ ap (λ (t : List ℕ). entries_heard far.entries ++ t) (heard_ask ask [] (asked_written outset replies)) ∙ append-nil (entries_heard far.entries)))
-            talked.taken;
-        told =
-            subst (λ (t : List ℕ). Appends s.before s.held t)
-            (far.told_is ∙ sym (written_both far.entries (ask ∷ [])
-            ∙ ap (λ (t : List ℕ). entries_written far.entries ++ t) (written_ask ask [] (asked_written outset replies) ∙ append-nil (line_of ask))))
-            talked.told;
+        taken = talked.taken;
+        told = talked.told;
       }
 
   -- it never rests
   deed_rests : (deed : Deed) → may_end (onward_of deed) ≡ true → ⊥
-  deed_rests (said.ToCard command) rests = absurd (cc rests)
-  deed_rests (said.ToHost message) rests = absurd (cc rests)
-  deed_rests (said.Over ending) rests = absurd (cc rests)
+  deed_rests (deeds.ToCard command) rests = absurd (cc rests)
+  deed_rests (deeds.ToHost message) rests = absurd (cc rests)
+  deed_rests (deeds.Over ending) rests = absurd (cc rests)
 
   may_not : (onward : Onward) → onward ≡ Stuck → may_end onward ≡ true → ⊥
   may_not onward stuck rests = let clash : false ≡ true = sym (ap may_end stuck) ∙ rests in cc clash
 
-  pub never_rests : (turns : List Turn) → IsTerminalTalk outset turns → may_end (onward_behind (onward_at outset []) turns) ≡ true → ⊥
+  pub never_rests : (turns : List Turn) → IsTerminalTalk iso outset turns → may_end (onward_behind (onward_at outset []) turns) ≡ true → ⊥
   never_rests turns talk rests =
       let far = as_exchanges turns talk.0 talk.1 (λ stuck. may_not (onward_behind (onward_at outset []) turns) stuck rests) in
       deed_rests (dialogue outset talk.0).deed (sym (ap may_end far.onward_is) ∙ rests)
@@ -182,7 +192,7 @@ module _ (s : Sides) (bytes : List ℕ) where
   by_served opening left turns (lane, reading, outset, only, opening_is, talk) taken told ended same = record {
     lane = lane;
     reading = reading;
-    traced = over_is_whole outset lane only s turns
+    traced = over_is_whole lane.iso outset lane refl only s turns
         (record {
           talks = talk;
           taken = subst (λ (l : Option (List ℕ)). Consumes s.first l (lines_spoken turns)) same taken;
@@ -192,7 +202,7 @@ module _ (s : Sides) (bytes : List ℕ) where
 
   no_rest : (opening : Opening) (turns : List Turn) → terminal_programme.Talks bytes opening turns → may_end (onward_behind opening.onward turns) ≡ true → ⊥
   no_rest opening turns (lane, reading, outset, only, opening_is, talk) rests =
-      never_rests outset turns talk (subst (λ (o : Opening). may_end (onward_behind o.onward turns) ≡ true) opening_is rests)
+      never_rests lane.iso outset turns talk (subst (λ (o : Opening). may_end (onward_behind o.onward turns) ≡ true) opening_is rests)
 
   talk_traced : (opening : Opening) → (status : Status) → TalkEnds (terminal_programme.Talks bytes opening) opening s status → status ≡ Done → WithLane
   talk_traced opening status (talk.OpeningCut cut left front) done = let clash : SinkFailed ≡ Done = sym cut ∙ done in absurd (cc clash)

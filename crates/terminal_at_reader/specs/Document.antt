@@ -8,18 +8,18 @@ use Rattle.scenario_fields.specs.Fields.{bytes_at, table_at, only}
 use Rattle.scenario_fields.specs.TablePaths.{at_top}
 use Rattle.scenario_fields.specs.declared.fault.ScenarioFault.{ScenarioFault}
 use Rattle.scenario_fields.specs.declared.fault.ScenarioFault.TheVariants.{Toml}
-use Rattle.scenario_lanes.specs.Lanes.{traced_lane}
+use Rattle.scenario_lanes.specs.Lanes.{live_lane}
 use Rattle.scenario_lanes.specs.Plan.{LaneData}
 
 unfoldable pub document_keys : List (List ℕ)
 document_keys = codes "pin_key" ∷ codes "lane" ∷ []
 
--- the document of a trace without its entries
+-- the document of a trace without its entries, whose messages may have a dialect
 unfoldable pub lane_in_document : Members → Result LaneData ScenarioFault
 lane_in_document ms = do
   pin_key ← bytes_at at_top (codes "pin_key") 16 16 ms
   table ← table_at at_top (codes "lane") ms
-  lane ← traced_lane pin_key table
+  lane ← live_lane 1 pin_key table
   _ ← only at_top document_keys ms
   Ok lane
 

@@ -1,3 +1,4 @@
 pub mod Document
+pub mod Hearing
 pub mod Talk
 pub mod Top

@@ -1,4 +1,4 @@
-//! The document of a terminal: that of a trace, without what was said.
+//! The document of a terminal: that of a trace, without what was said, and with its dialect.
 ghost use Rattle.std.specs.Prelude.{◌≡◌, length, IfOk};
 ghost use Rattle.toml.specs.View.{table_view};
 ghost use Rattle.scenario_fields.specs.Fault.{Gives};
@@ -8,7 +8,7 @@ ghost use Rattle.scenario_lanes.specs.Plan.{IsLane};
 ghost use Rattle.terminal_at_reader.specs.Document.{document_keys, lane_in_document, ReadsTerminal};
 
 use scenario_fields::{Fields, LaneAt, ScenarioFault, TablePlace};
-use scenario_lanes::{Lane, read_lane};
+use scenario_lanes::{Lane, read_live_lane};
 use std::alloc::Global;
 use toml::Table;
 
@@ -33,7 +33,7 @@ fn lane_in(alloc: Global, document: &Table) -> Result<Lane, ScenarioFault>
     };
     let pin_key = fields.byte_array("pin_key")?;
     let table = fields.inner("lane", TablePlace::Lane(LaneAt::Only))?.table;
-    let lane = read_lane(alloc, table, pin_key)?;
+    let lane = read_live_lane(alloc, table, 1, pin_key)?;
     only_lane_keys(&fields)?;
     Ok(lane)
 }

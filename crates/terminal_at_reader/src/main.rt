@@ -4,6 +4,8 @@
 
 mod asking;
 mod document;
+mod fault;
+mod hearing;
 mod terminal;
 #[cfg(test)]
 mod tests;

@@ -24,7 +24,7 @@ fn serve_terminal<S: Source, K: Sink>(
 ) -> Status
     requires one { length lane.now.purchases ≡ 1 }
     requires rules { IsLane lane.now }
-    ensures ends { (outset : Outset) × IsOnly lane.now outset × TalkEnds (IsTerminalTalk outset) (terminal_opening outset)
+    ensures ends { (outset : Outset) × IsOnly lane.now outset × TalkEnds (IsTerminalTalk lane.now.iso outset) (terminal_opening lane.now.iso outset)
         (record { first = S.left source.old; left = S.left source.new; before = K.held sink.old; held = K.held sink.new }) result }
     ensures source { TalkSourceCount (S.faults source.old) (S.faults source.new) result }
     ensures sink { TalkSinkCount (K.faults sink.old) (K.faults sink.new) result }
@@ -33,6 +33,7 @@ fn serve_terminal<S: Source, K: Sink>(
     let mut terminal = Terminal {
         settings: &lane.settings,
         purchase: &planned.purchase,
+        iso: lane.iso,
         kernel: Kernel::begin(&lane.settings, &planned.purchase),
     };
     converse(alloc, &mut terminal, source, sink)

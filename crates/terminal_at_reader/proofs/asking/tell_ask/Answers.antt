@@ -8,10 +8,10 @@ pub returns-in-ToCard : goal.returns-in-ToCard
 returns-in-ToCard c replies stands =
     let at = dialogue (outset_in c.args.kernel.now) replies in
     c.write_bytes.ensures
-    ∙ told_card (outset_in c.args.kernel.now) at.steps_done at.deed _ (sym c.in-ToCard.is ∙ c.next.ensures.told replies stands) (c.bytes.ensures.told replies stands)
+    ∙ told_card c.args.iso (outset_in c.args.kernel.now) at.steps_done at.deed _ (sym c.in-ToCard.is ∙ c.next.ensures.told replies stands) (c.bytes.ensures.told replies stands)
 
 pub returns-in-ToHost : goal.returns-in-ToHost
 returns-in-ToHost c replies stands =
     let at = dialogue (outset_in c.args.kernel.now) replies in
-    c.write_bytes-in-ToHost.ensures
-    ∙ told_host (outset_in c.args.kernel.now) at.steps_done at.deed _ (sym c.in-ToHost.is ∙ c.next.ensures.told replies stands) (c.bytes-in-ToHost.ensures.told replies stands)
+    c.write_message.ensures
+    ∙ told_host c.args.iso (outset_in c.args.kernel.now) at.steps_done at.deed _ (sym c.in-ToHost.is ∙ c.next.ensures.told replies stands) (c.bytes-in-ToHost.ensures.told replies stands)

@@ -3,11 +3,12 @@ use Rattle.line_talk.specs.Talk.{Sides, TalkEnds}
 use Rattle.scenario_lanes.specs.Plan.{LaneData}
 use Rattle.terminal_state.specs.Terminal.{Outset}
 use Rattle.terminal_at_reader.proofs.Taking.{none_asked, only_planned}
+use Rattle.terminal_at_reader.specs.Talk.{IsTerminalTalk, terminal_opening}
 use Rattle.terminal_at_reader.specs.Top.{IsOnly}
 use Rattle.terminal_at_reader.proofs.top.serve_terminal.Goals as goal
 
 pub converse-requires : goal.converse-requires
-converse-requires g c = record { begun = none_asked _ c.begin.result c.begin.ensures }
+converse-requires g c = record { begun = none_asked _ _ c.begin.result c.begin.ensures }
 
 pub returns-clause-ends : goal.returns-clause-ends
 returns-clause-ends g c =
@@ -19,4 +20,12 @@ returns-clause-ends g c =
       one = only_planned seen c.args.lane.now c.index-planned.result.now same c.requires.one c.index-planned.ensures;
       outset_is = refl;
     } in
-    (outset, subst (λ (lane : LaneData). IsOnly lane outset) same only, c.converse.ensures.ends)
+    let both =
+    subst (λ (lane : LaneData). IsOnly lane outset × TalkEnds (IsTerminalTalk lane.iso outset) (terminal_opening lane.iso outset)
+    (record {
+      first = g.S.Source.left c.args.source.now;
+      left = g.S.Source.left c.converse.new.source;
+      before = g.K.Sink.held c.args.sink.now;
+      held = g.K.Sink.held c.converse.new.sink;
+    }) c.converse.result) same (only, c.converse.ensures.ends) in
+    (outset, both.0, both.1)
