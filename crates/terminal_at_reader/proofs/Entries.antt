@@ -7,7 +7,6 @@ use Rattle.kernel.specs.Kernel.{deed_bytes, deed_next}
 use Rattle.kernel.specs.Reply.{Deed}
 use Rattle.kernel.specs.Reply as said
 use Rattle.kernel.specs.EndShown.{EndShown, shown_end}
-use Rattle.kernel.specs.declared.kernel.Next.{Next}
 use Rattle.kernel.specs.declared.kernel.Next.TheVariants as next
 use Rattle.line_talk.specs.declared.party.Onward.TheVariants.{Awaits, Over}
 use Rattle.terminal_state.specs.StepResults.{StepResult}

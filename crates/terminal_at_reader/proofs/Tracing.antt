@@ -1,5 +1,5 @@
 -- A dialogue that is over is a trace that is the same as its terminal's.
-use Rattle.std.proofs.Common.{◌≡◌, ◌⊎◌, Ok, inl, inr, ℕ, Bool, true, false, List, [], ◌∷◌, ◌++◌, Option, Some, None, refl, sym, ap, subst, ◌∙◌, append_assoc, if◌then◌else◌}
+use Rattle.std.proofs.Common.{◌≡◌, Ok, inl, inr, ℕ, Bool, true, false, List, [], ◌∷◌, ◌++◌, Option, Some, None, refl, sym, ap, subst, ◌∙◌, append_assoc, if◌then◌else◌}
 use Rattle.std.specs.Io.KnownBytes.{Appends, Consumes}
 use Rattle.emv_dict.specs.declared.ending.Ending.{Ending}
 use Rattle.kernel.specs.Dialogue.{dialogue}
@@ -22,7 +22,7 @@ use Rattle.trace_check.proofs.Lawful.{same_is_dialogue}
 use Rattle.trace_check.proofs.Spelling.{text_is}
 use Rattle.trace_check.specs.Dialogues.{entry_of_standing, is_awaited, reply_of_entry}
 use Rattle.trace_check.specs.Laws.{IsDialogue, over, answered}
-use Rattle.trace_check.specs.Texts.{entry_of_text, entry_text}
+use Rattle.trace_check.specs.Texts.{entry_of_text}
 use Rattle.trace_check.specs.Verdicts.{verdict_on}
 use Rattle.trace_check.specs.declared.entry.Entry.{Entry}
 use Rattle.terminal_at_reader.specs.Document.{ReadsTerminal}

@@ -1,5 +1,5 @@
 -- What the program does with a document.
-use Rattle.std.specs.Prelude.{◌≡◌, ℕ, List, [], ◌∷◌, ◌++◌, length, Option, Ok, Err}
+use Rattle.std.specs.Prelude.{◌≡◌, ℕ, List, [], ◌∷◌, ◌++◌, Option, Ok, Err}
 use Rattle.std.specs.Io.KnownBytes.{Appends, Consumes}
 use Rattle.line_talk.specs.Preamble.{IsDocument}
 use Rattle.line_talk.specs.Talk.{Programme, Sides}

@@ -1,5 +1,5 @@
 use Rattle.std.proofs.Common.{List, ℕ, subst}
-use Rattle.line_talk.specs.Talk.{EndsDocument, HasDocument, Served, Sides}
+use Rattle.line_talk.specs.Talk.{EndsDocument, HasDocument}
 use Rattle.terminal_at_reader.specs.Top.{terminal_programme}
 use Rattle.terminal_at_reader.proofs.Tracing.{had_dialogue}
 use Rattle.terminal_at_reader.proofs.top.run.Goals as goal

@@ -1,5 +1,5 @@
-use Rattle.std.proofs.Common.{◌≡◌, ap, refl, sym, subst}
-use Rattle.line_talk.specs.Talk.{Sides, TalkEnds}
+use Rattle.std.proofs.Common.{◌≡◌, refl, subst}
+use Rattle.line_talk.specs.Talk.{TalkEnds}
 use Rattle.scenario_lanes.specs.Plan.{LaneData}
 use Rattle.terminal_state.specs.Terminal.{Outset}
 use Rattle.terminal_at_reader.proofs.Taking.{none_asked, only_planned}
