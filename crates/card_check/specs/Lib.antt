@@ -3,3 +3,4 @@ pub mod Judged
 pub mod Reasons
 pub mod Top
 pub mod Verdicts
+pub mod Statuses

@@ -6,16 +6,18 @@ mod clashing;
 mod fault;
 mod own;
 mod serving;
+mod status;
 mod top;
 mod validating;
 mod verdicts;
 
 use emv_ports::{StdinSource, StdoutSink};
+use status::Status;
 use std::process::ExitCode;
 use std::{env, io};
 use top::run;
 
-/// Judges the cards of the document. Where there is no memory for the words, the status is 5.
+/// Judges the cards of the document. Where there is no memory for the words, the status says so.
 fn main(rt: HostRuntime) -> ExitCode {
     let mut source = StdinSource::new(rt.reader());
     let mut sink = StdoutSink::new(io::writer(&rt));
@@ -24,11 +26,11 @@ fn main(rt: HostRuntime) -> ExitCode {
         Ok(given) => {
             for word in given.skip(1) {
                 if words.push(word).is_err() {
-                    return ExitCode::from(5);
+                    return ExitCode::from(Status::OutOfMemory.code());
                 }
             }
         }
-        Err(_) => return ExitCode::from(5),
+        Err(_) => return ExitCode::from(Status::OutOfMemory.code()),
     }
-    ExitCode::from(run(rt.alloc(), &words, &mut source, &mut sink))
+    ExitCode::from(run(rt.alloc(), &words, &mut source, &mut sink).code())
 }
