@@ -1,5 +1,5 @@
 -- The first of a list that passes a test.
-use Rattle.std.proofs.Common.{◌≡◌, ℕ, ◌+◌, ◌<◌, Bool, cond, List, ◌∷◌, drop, length, Option, Some, get_or, sym, ap, ◌∙◌, drop-cons, add-one}
+use Rattle.std.proofs.Common.{◌≡◌, ℕ, ◌+◌, ◌<◌, Bool, cond, List, ◌∷◌, drop, length, Some, get_or, sym, ap, ◌∙◌, drop-cons, add-one}
 use Rattle.std.specs.List.{position_from}
 
 -- the search from a place on, where the numbers begin with another one

@@ -1,5 +1,5 @@
 -- What becomes of a document.
-use Rattle.std.proofs.Common.{◌≡◌, ℕ, ◌<◌, List, [], ◌∷◌, length, arith, Ok, Err, None, refl}
+use Rattle.std.proofs.Common.{◌≡◌, ℕ, ◌<◌, List, [], ◌∷◌, length, arith, Ok, None, refl}
 use Rattle.line_talk.proofs.Talking.{weaker}
 use Rattle.line_talk.specs.Talk.{EndsDocument, HasServed, IsRefused, NotAsked, Served, Sides, TalkEnds, Untold, WritesLast, other_line}
 use Rattle.line_talk.specs.declared.status.Status.{Status}

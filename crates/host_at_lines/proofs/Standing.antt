@@ -1,9 +1,7 @@
 -- Where a host at lines stands behind a line.
-use Rattle.std.proofs.Common.{◌≡◌, ℕ, Bool, true, false, if◌then◌else◌, List, [], ◌∷◌, ◌++◌, map, Option, Some, None, Ok, Err, refl, sym, ap, subst, ◌∙◌}
+use Rattle.std.proofs.Common.{◌≡◌, ℕ, Bool, true, if◌then◌else◌, List, [], ◌∷◌, ◌++◌, map, Option, Some, None, refl, sym, ap, subst, ◌∙◌}
 use Rattle.std.proofs.lemmas.List.{map-append}
 use Rattle.auth_message.specs.Message.{message_of}
-use Rattle.auth_message.specs.Whole.{message_bytes}
-use Rattle.auth_message.specs.declared.message.Incoming.{Incoming}
 use Rattle.issuer_host.specs.Account.{AccountData}
 use Rattle.issuer_host.specs.Books.{Books}
 use Rattle.issuer_host.specs.History.{HostData, HostStands, books_of, host_reply}
@@ -14,7 +12,7 @@ use Rattle.line_talk.specs.Turns.{Turn}
 use Rattle.line_talk.specs.declared.party.Onward.TheVariants.{Rests}
 use Rattle.host_at_lines.specs.Because.{because_by, because_of}
 use Rattle.host_at_lines.specs.Calls.{named}
-use Rattle.host_at_lines.specs.Talk.{Heard, HasAnswered, HostTalked, HostTurn, IsTurn, Last, Nothing, Stands, begins, goes, messages_of, turn, turn_by}
+use Rattle.host_at_lines.specs.Talk.{Heard, HasAnswered, HostTalked, IsTurn, Last, Nothing, Stands, begins, goes, messages_of, turn, turn_by}
 use Rattle.host_at_lines.specs.Words.{line_word}
 use Rattle.host_at_lines.specs.declared.because.Because.{Because as Why}
 use Rattle.host_at_lines.specs.declared.call.Call.{Call}

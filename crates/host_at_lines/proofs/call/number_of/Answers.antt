@@ -1,4 +1,4 @@
-use Rattle.std.proofs.Common.{◌≡◌, ◌+◌, Bool, cond, drop, Option, Some, sym, ap, ◌∙◌}
+use Rattle.std.proofs.Common.{◌+◌, Bool, cond, drop, Option, Some, sym, ap, ◌∙◌}
 use Rattle.std.specs.List.{position_from}
 use Rattle.host_at_lines.specs.Calls.{is_of}
 use Rattle.host_at_lines.specs.declared.call.Call.{Call}

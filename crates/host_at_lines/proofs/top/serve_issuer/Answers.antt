@@ -1,4 +1,4 @@
-use Rattle.std.proofs.Common.{List, refl, subst, sym, ◌∙◌}
+use Rattle.std.proofs.Common.{List, refl, subst, ◌∙◌}
 use Rattle.issuer_host.specs.Account.{AccountData}
 use Rattle.issuer_host.specs.declared.keys.HostKeys.{HostKeys}
 use Rattle.line_talk.specs.Talk.{Sides, TalkEnds}
