@@ -3,7 +3,7 @@ use Rattle.std.proofs.Common.{◌≡◌, ℕ, zero, suc, ◌<◌, ◌≤◌, tru
 use Rattle.std.specs.Prelude.{nat_le}
 use Rattle.std.proofs.lemmas.Bool.Decides.{nat_tests}
 use Rattle.ber_tlv.proofs.ReadAgain.{both}
-use Rattle.host_at_lines.specs.Words.{are_numerals, is_numeral}
+use Rattle.iso_message.specs.Text.{are_numerals, is_numeral}
 
 at_least : (a b : ℕ) → nat_le a b ≡ true → a ≤ b
 at_least a b is = grind (arith, nat_tests)

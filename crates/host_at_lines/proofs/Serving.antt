@@ -8,7 +8,7 @@ use Rattle.scenario_fields.specs.Line.{refused_line}
 use Rattle.scenario_fields.specs.declared.fault.ScenarioFault.TheVariants as fault
 use Rattle.host_at_lines.specs.Document.{IssuerData, ReadsIssuer}
 use Rattle.host_at_lines.specs.Talk.{IsHostTalk, host_opening}
-use Rattle.host_at_lines.specs.Top.{host_programme, programme_of}
+use Rattle.host_at_lines.specs.Top.{host_programme, host_programme_of}
 
 -- its host was served
 pub host_served : (bytes : List ℕ) (issuer : IssuerData) → ReadsIssuer bytes (Ok issuer) → (s : Sides) (status : Status)
@@ -23,11 +23,11 @@ unfolding refused_line
 without_memory bytes s unread untold = IsRefused None (fault.OutOfMemory, record { text = λ t. tt; other = λ t. tt }, refl) unread (Untold refl untold)
 
 -- without a word it is asked for
-pub none_said : (words : List (List ℕ)) (s : Sides) (status : Status) → length words ≡ 0 → Served host_programme s status → Served (programme_of words) s status
+pub none_said : (words : List (List ℕ)) (s : Sides) (status : Status) → length words ≡ 0 → Served host_programme s status → Served (host_programme_of words) s status
 none_said [] s status none served = served
 none_said (word ∷ words) s status none served = absurd (omega (arith, none))
 
 pub word_said : (words : List (List ℕ)) (s : Sides) (status : Status) → 0 < length words → s.left ≡ s.first → WritesLast Unserved status s.before s.held other_line
-    → Served (programme_of words) s status
+    → Served (host_programme_of words) s status
 word_said [] s status some unread writes = absurd (omega (arith, some))
 word_said (word ∷ words) s status some unread writes = NotAsked tt unread writes

@@ -13,7 +13,7 @@ use Rattle.issuer_host.specs.declared.reason.Reason.{Reason}
 use Rattle.issuer_host.specs.declared.reason.Reason.TheVariants.{Repeat, OtherBytes, Reversed, Presented}
 use Rattle.iso_message.specs.declared.kind.CallKind.{CallKind}
 use Rattle.iso_message.specs.declared.kind.CallKind.TheVariants as kind
-use Rattle.host_at_lines.specs.Calls.{named, number_of}
+use Rattle.host_at_lines.specs.Calls.{call_named, call_number}
 use Rattle.host_at_lines.specs.declared.because.Because.{Because}
 use Rattle.host_at_lines.specs.declared.call.Call.{Call}
 
@@ -27,7 +27,7 @@ kind_meant own other = None
 
 abbrev pub number_if : List (Option Call) → Key → Option CallKind → Option ℕ
 number_if calls key None = None
-number_if calls key (Some kind) = number_of kind key calls
+number_if calls key (Some kind) = call_number kind key calls
 
 -- the number of that message
 abbrev pub earlier_number : List (Option Call) → Reason → Option Call → Option ℕ
@@ -61,5 +61,5 @@ because_by calls call reason reply = record {
 -- why the reply to a message is as it is that comes behind these
 unfoldable pub because_of : HostKeys → List AccountData → List (List ℕ) → List ℕ → Because
 because_of keys accounts before message =
-    because_by (map named before) (named message) (reason_in keys accounts (books_of keys accounts before) message (message_of message))
+    because_by (map call_named before) (call_named message) (reason_in keys accounts (books_of keys accounts before) message (message_of message))
     (host_reply keys accounts before message)

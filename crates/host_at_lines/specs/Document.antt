@@ -20,8 +20,8 @@ pub record IssuerData : Type 0 where
   pub accounts : List AccountData
 
 -- the issuer's keys and the accounts of a scenario; its other tables are not read
-unfoldable pub issuer_of : Members → Result IssuerData ScenarioFault
-issuer_of ms = do
+unfoldable pub issuer_in_tables : Members → Result IssuerData ScenarioFault
+issuer_in_tables ms = do
   keys ← issuer_at at_top ms
   accounts ← accounts_at at_top ms
   _ ← only at_top top_keys ms
@@ -29,7 +29,7 @@ issuer_of ms = do
 
 abbrev pub issuer_of_document : Option Members → Result IssuerData ScenarioFault
 issuer_of_document None = Err Toml
-issuer_of_document (Some ms) = issuer_of ms
+issuer_of_document (Some ms) = issuer_in_tables ms
 
 -- what the bytes give
 pub record ReadsIssuer (bytes : List ℕ) (result : Result IssuerData ScenarioFault) : Type 0 where

@@ -16,15 +16,15 @@ use Rattle.report_text.specs.Pieces.{digits_text, hex_or_dash}
 use Rattle.host_at_lines.specs.declared.because.Because.{Because}
 
 -- the answer to what is no line
-abbrev pub other_text : List ℕ
-other_text = codes "?" ++ 10 ∷ []
+abbrev pub unasked_text : List ℕ
+unasked_text = codes "?" ++ 10 ∷ []
 
 abbrev pub reply_text : List ℕ → List ℕ
 reply_text reply = codes "< " ++ (hex_or_dash reply ++ 10 ∷ [])
 
 -- a balance as a report has it, where an account has the number
 abbrev pub balance_text : List ℕ → Option ℤ → List ℕ
-balance_text pan None = other_text
+balance_text pan None = unasked_text
 balance_text pan (Some balance) = codes "balance " ++ (digits_text pan ++ (codes " " ++ (signed_decimal balance ++ 10 ∷ [])))
 
 abbrev pub count_text : ℕ → List ℕ
@@ -60,36 +60,36 @@ blank_number (Some number) = codes " " ++ decimal number
 abbrev pub above_words : ℕ → ℤ → List ℕ
 above_words amount balance = (codes "above-balance " ++ decimal amount) ++ (codes " " ++ signed_decimal balance)
 
-abbrev pub settled_words : ℕ → Option ℕ → List ℕ
-settled_words amount held = codes "settled " ++ (decimal amount ++ blank_number held)
+abbrev pub settled_reason_words : ℕ → Option ℕ → List ℕ
+settled_reason_words amount held = codes "settled " ++ (decimal amount ++ blank_number held)
 
 -- a reason and its numbers, with the number of the earlier message that it speaks of
-abbrev pub reason_words : Option ℕ → Reason → List ℕ
-reason_words earlier (Unreadable fault) = fault_words fault
-reason_words earlier Repeat = codes "repeat" ++ blank_number earlier
-reason_words earlier OtherBytes = codes "other-bytes" ++ blank_number earlier
-reason_words earlier UnknownAccount = codes "unknown-account"
-reason_words earlier WrongCryptogram = codes "cryptogram"
-reason_words earlier Blocked = codes "blocked"
-reason_words earlier (OtherCurrency message account) = codes "currency " ++ (hex_or_dash message ++ (codes " " ++ hex_or_dash account))
-reason_words earlier Reversed = codes "reversed" ++ blank_number earlier
-reason_words earlier Presented = codes "presented" ++ blank_number earlier
-reason_words earlier (Expired expiry day) = codes "expired " ++ (hex_or_dash expiry ++ (codes " " ++ hex_or_dash day))
-reason_words earlier WrongPin = codes "pin"
-reason_words earlier (AboveBalance amount balance) = above_words amount balance
-reason_words earlier (Approved amount) = codes "approved" ++ blank_number (Some amount)
-reason_words earlier (Settled amount held) = settled_words amount held
-reason_words earlier (Released amount) = codes "released" ++ blank_number (Some amount)
-reason_words earlier NothingHeld = codes "nothing-held"
+abbrev pub host_reason_words : Option ℕ → Reason → List ℕ
+host_reason_words earlier (Unreadable fault) = fault_words fault
+host_reason_words earlier Repeat = codes "repeat" ++ blank_number earlier
+host_reason_words earlier OtherBytes = codes "other-bytes" ++ blank_number earlier
+host_reason_words earlier UnknownAccount = codes "unknown-account"
+host_reason_words earlier WrongCryptogram = codes "cryptogram"
+host_reason_words earlier Blocked = codes "blocked"
+host_reason_words earlier (OtherCurrency message account) = codes "currency " ++ (hex_or_dash message ++ (codes " " ++ hex_or_dash account))
+host_reason_words earlier Reversed = codes "reversed" ++ blank_number earlier
+host_reason_words earlier Presented = codes "presented" ++ blank_number earlier
+host_reason_words earlier (Expired expiry day) = codes "expired " ++ (hex_or_dash expiry ++ (codes " " ++ hex_or_dash day))
+host_reason_words earlier WrongPin = codes "pin"
+host_reason_words earlier (AboveBalance amount balance) = above_words amount balance
+host_reason_words earlier (Approved amount) = codes "approved" ++ blank_number (Some amount)
+host_reason_words earlier (Settled amount held) = settled_reason_words amount held
+host_reason_words earlier (Released amount) = codes "released" ++ blank_number (Some amount)
+host_reason_words earlier NothingHeld = codes "nothing-held"
 
-abbrev pub scripts_words : Bool → List ℕ
-scripts_words false = []
-scripts_words true = codes " scripts"
+abbrev pub with_scripts_words : Bool → List ℕ
+with_scripts_words false = []
+with_scripts_words true = codes " scripts"
 
-abbrev pub because_words : Because → List ℕ
-because_words because = codes "because " ++ (reason_words because.earlier because.reason ++ (scripts_words because.scripts ++ 10 ∷ []))
+abbrev pub because_line : Because → List ℕ
+because_line because = codes "because " ++ (host_reason_words because.earlier because.reason ++ (with_scripts_words because.scripts ++ 10 ∷ []))
 
 -- why the last reply is as it is, where there was one
 abbrev pub because_text : Option Because → List ℕ
-because_text None = other_text
-because_text (Some because) = because_words because
+because_text None = unasked_text
+because_text (Some because) = because_line because

@@ -16,6 +16,6 @@ host_programme = record {
 }
 
 -- it has no words: one asks for nobody
-abbrev pub programme_of : List (List ℕ) → Programme
-programme_of [] = host_programme
-programme_of (word ∷ words) = no_programme
+abbrev pub host_programme_of : List (List ℕ) → Programme
+host_programme_of [] = host_programme
+host_programme_of (word ∷ words) = no_programme

@@ -3,7 +3,7 @@ ghost use Rattle.std.specs.Prelude.{◌≡◌, ◌≤◌, ◌++◌, ◌∷◌, [
 ghost use Rattle.auth_message.specs.Whole.{HasCodes, IsAccepted, IsMessage, IsReply, message_bytes};
 ghost use Rattle.issuer_host.specs.History.{HostStands, host_reply};
 ghost use Rattle.host_at_lines.specs.Talk as spec;
-ghost use Rattle.host_at_lines.specs.Talk.{Heard, Last, HasAnswered, IsHostTalk, IsTurn, Stands, host_opening, messages_of};
+ghost use Rattle.host_at_lines.specs.Talk.{HeardMessages, Last, HostHasAnswered, IsHostTalk, IsHostTurn, Stands, host_opening, messages_of};
 ghost use Rattle.host_at_lines.specs.Told.{accounts_text, balance_text, because_text};
 ghost use Rattle.issuer_host.specs.Balance.{balance_in};
 ghost use Rattle.std.specs.List.{flat_map};
@@ -38,7 +38,7 @@ pub struct HostAtLines<'a> {
 pub fn begin<'a>(alloc: Global, host: Host<'a>, accounts: &'a [Account]) -> HostAtLines<'a>
     requires begun { HostStands host [] }
     requires accounts { accounts.now ≡ host.accounts }
-    ensures begun { HasAnswered result.host result.accounts.now result.calls.items result.because [] }
+    ensures begun { HostHasAnswered result.host result.accounts.now result.calls.items result.because [] }
     ensures keys { result.host.keys ≡ host.entry.keys }
     ensures accounts { result.host.accounts ≡ host.entry.accounts }
 {
@@ -55,12 +55,12 @@ pub fn begin<'a>(alloc: Global, host: Host<'a>, accounts: &'a [Account]) -> Host
 /// it.
 fn ask(at: &mut HostAtLines<'_>, message: &[u8], reply: &mut Message) -> Result<(), AllocError>
     requires short { length message.now ≤ 2048 }
-    ensures reply { OnOk result ((heard : Heard) → Stands at.old.host at.old.accounts.now at.old.calls.items at.old.because heard
+    ensures reply { OnOk result ((heard : HeardMessages) → Stands at.old.host at.old.accounts.now at.old.calls.items at.old.because heard
         → reply.new.items ≡ host_reply at.old.host.keys at.old.host.accounts (messages_of heard) message.now) }
-    ensures written { OnOk result ((heard : Heard) → Stands at.old.host at.old.accounts.now at.old.calls.items at.old.because heard → IsReply reply.new.items) }
-    ensures stands { OnOk result ((heard : Heard) → Stands at.old.host at.old.accounts.now at.old.calls.items at.old.because heard
+    ensures written { OnOk result ((heard : HeardMessages) → Stands at.old.host at.old.accounts.now at.old.calls.items at.old.because heard → IsReply reply.new.items) }
+    ensures stands { OnOk result ((heard : HeardMessages) → Stands at.old.host at.old.accounts.now at.old.calls.items at.old.because heard
         → Stands at.new.host at.new.accounts.now at.new.calls.items at.new.because (Last (messages_of heard) message.now)) }
-    ensures kept { OnErr result ((heard : Heard) → Stands at.old.host at.old.accounts.now at.old.calls.items at.old.because heard
+    ensures kept { OnErr result ((heard : HeardMessages) → Stands at.old.host at.old.accounts.now at.old.calls.items at.old.because heard
         → Stands at.new.host at.new.accounts.now at.new.calls.items at.new.because heard) }
     ensures keys { at.new.host.keys ≡ at.old.host.keys }
     ensures accounts { at.new.host.accounts ≡ at.old.host.accounts }
@@ -104,11 +104,11 @@ fn answer_message(
 ) -> Result<(), AllocError>
     requires short { length message.now ≤ 2048 }
     requires message { iso ≡ true → IsMessage message.now }
-    requires stands { (heard : Heard) × Stands at.old.host at.old.accounts.now at.old.calls.items at.old.because heard }
-    ensures turn { OnOk result ((heard : Heard) → Stands at.old.host at.old.accounts.now at.old.calls.items at.old.because heard
-        → IsTurn at.new.host at.new.accounts.now at.new.calls.items at.new.because text.new.items
+    requires stands { (heard : HeardMessages) × Stands at.old.host at.old.accounts.now at.old.calls.items at.old.because heard }
+    ensures turn { OnOk result ((heard : HeardMessages) → Stands at.old.host at.old.accounts.now at.old.calls.items at.old.because heard
+        → IsHostTurn at.new.host at.new.accounts.now at.new.calls.items at.new.because text.new.items
         (spec.message_turn at.old.host.keys at.old.host.accounts heard iso message.now)) }
-    ensures kept { OnErr result ((heard : Heard) → Stands at.old.host at.old.accounts.now at.old.calls.items at.old.because heard
+    ensures kept { OnErr result ((heard : HeardMessages) → Stands at.old.host at.old.accounts.now at.old.calls.items at.old.because heard
         → Stands at.new.host at.new.accounts.now at.new.calls.items at.new.because heard) }
     ensures keys { at.new.host.keys ≡ at.old.host.keys }
     ensures accounts { at.new.host.accounts ≡ at.old.host.accounts }
@@ -140,11 +140,11 @@ fn write_message(call: &Incoming<'_>, out: &mut Message)
 
 /// Answers bytes in the style of ISO 8583: by the reply to the message that they are, or by their fault.
 fn answer_iso(at: &mut HostAtLines<'_>, bytes: &[u8], text: &mut Vec<u8>) -> Result<(), AllocError>
-    requires stands { (heard : Heard) × Stands at.old.host at.old.accounts.now at.old.calls.items at.old.because heard }
-    ensures turn { OnOk result ((heard : Heard) → Stands at.old.host at.old.accounts.now at.old.calls.items at.old.because heard
-        → IsTurn at.new.host at.new.accounts.now at.new.calls.items at.new.because text.new.items
+    requires stands { (heard : HeardMessages) × Stands at.old.host at.old.accounts.now at.old.calls.items at.old.because heard }
+    ensures turn { OnOk result ((heard : HeardMessages) → Stands at.old.host at.old.accounts.now at.old.calls.items at.old.because heard
+        → IsHostTurn at.new.host at.new.accounts.now at.new.calls.items at.new.because text.new.items
         (spec.call_turn at.old.host.keys at.old.host.accounts heard true bytes.now)) }
-    ensures kept { OnErr result ((heard : Heard) → Stands at.old.host at.old.accounts.now at.old.calls.items at.old.because heard
+    ensures kept { OnErr result ((heard : HeardMessages) → Stands at.old.host at.old.accounts.now at.old.calls.items at.old.because heard
         → Stands at.new.host at.new.accounts.now at.new.calls.items at.new.because heard) }
     ensures keys { at.new.host.keys ≡ at.old.host.keys }
     ensures accounts { at.new.host.accounts ≡ at.old.host.accounts }
@@ -211,11 +211,11 @@ fn answer_because(because: &Option<Because>, text: &mut Vec<u8>) -> Result<(), A
 /// Answers what a line asks. Where there is no memory, the host is as before.
 fn answer_word(at: &mut HostAtLines<'_>, word: Word, text: &mut Vec<u8>) -> Result<(), AllocError>
     requires short { IsShort word }
-    requires stands { (heard : Heard) × Stands at.old.host at.old.accounts.now at.old.calls.items at.old.because heard }
-    ensures turn { OnOk result ((heard : Heard) → Stands at.old.host at.old.accounts.now at.old.calls.items at.old.because heard
-        → IsTurn at.new.host at.new.accounts.now at.new.calls.items at.new.because text.new.items
-        (spec.turn_by at.old.host.keys at.old.host.accounts heard word)) }
-    ensures kept { OnErr result ((heard : Heard) → Stands at.old.host at.old.accounts.now at.old.calls.items at.old.because heard
+    requires stands { (heard : HeardMessages) × Stands at.old.host at.old.accounts.now at.old.calls.items at.old.because heard }
+    ensures turn { OnOk result ((heard : HeardMessages) → Stands at.old.host at.old.accounts.now at.old.calls.items at.old.because heard
+        → IsHostTurn at.new.host at.new.accounts.now at.new.calls.items at.new.because text.new.items
+        (spec.host_turn_by at.old.host.keys at.old.host.accounts heard word)) }
+    ensures kept { OnErr result ((heard : HeardMessages) → Stands at.old.host at.old.accounts.now at.old.calls.items at.old.because heard
         → Stands at.new.host at.new.accounts.now at.new.calls.items at.new.because heard) }
     ensures keys { at.new.host.keys ≡ at.old.host.keys }
     ensures accounts { at.new.host.accounts ≡ at.old.host.accounts }
@@ -242,11 +242,11 @@ pub fn answer_line(
     line: &[u8],
     text: &mut Vec<u8>,
 ) -> Result<(), AllocError>
-    requires stands { (heard : Heard) × Stands at.old.host at.old.accounts.now at.old.calls.items at.old.because heard }
-    ensures turn { OnOk result ((heard : Heard) → Stands at.old.host at.old.accounts.now at.old.calls.items at.old.because heard
-        → IsTurn at.new.host at.new.accounts.now at.new.calls.items at.new.because text.new.items
-        (spec.turn at.old.host.keys at.old.host.accounts heard line.now)) }
-    ensures kept { OnErr result ((heard : Heard) → Stands at.old.host at.old.accounts.now at.old.calls.items at.old.because heard
+    requires stands { (heard : HeardMessages) × Stands at.old.host at.old.accounts.now at.old.calls.items at.old.because heard }
+    ensures turn { OnOk result ((heard : HeardMessages) → Stands at.old.host at.old.accounts.now at.old.calls.items at.old.because heard
+        → IsHostTurn at.new.host at.new.accounts.now at.new.calls.items at.new.because text.new.items
+        (spec.host_turn at.old.host.keys at.old.host.accounts heard line.now)) }
+    ensures kept { OnErr result ((heard : HeardMessages) → Stands at.old.host at.old.accounts.now at.old.calls.items at.old.because heard
         → Stands at.new.host at.new.accounts.now at.new.calls.items at.new.because heard) }
     ensures keys { at.new.host.keys ≡ at.old.host.keys }
     ensures accounts { at.new.host.accounts ≡ at.old.host.accounts }
@@ -259,7 +259,7 @@ pub fn answer_line(
 impl Party for HostAtLines<'_> {
     ghost opening = { λ at. host_opening };
 
-    ghost stands = { λ at turns. HasAnswered at.host at.accounts.now at.calls.items at.because turns };
+    ghost stands = { λ at turns. HostHasAnswered at.host at.accounts.now at.calls.items at.because turns };
 
     ghost talks = { λ at turns. IsHostTalk at.host.keys at.host.accounts turns };
 

@@ -40,7 +40,7 @@ fn key_of(pan: &Digits, sequence: Option<[u8; 1]>, counter: [u8; 2]) -> Key
 
 /// What a message is that was read.
 fn call_in(message: &Incoming<'_>) -> Call
-    ensures { result ≡ spec.call_in message.now }
+    ensures { result ≡ spec.call_of_message message.now }
 {
     match message {
         Incoming::Request(fields) => Call {
@@ -59,9 +59,9 @@ fn call_in(message: &Incoming<'_>) -> Call
 }
 
 /// What a message is, none where it can't be read.
-#[tactic(auto, unfolding(crate::specs::Calls::named))]
+#[tactic(auto, unfolding(crate::specs::Calls::call_named))]
 pub fn call_of(message: &[u8]) -> Option<Call>
-    ensures { result ≡ spec.named message.now }
+    ensures { result ≡ spec.call_named message.now }
 {
     match read_message(message) {
         Ok(incoming) => Some(call_in(&incoming)),
@@ -71,7 +71,7 @@ pub fn call_of(message: &[u8]) -> Option<Call>
 
 /// Whether two messages are of one kind.
 fn is_same_kind(kind: CallKind, other: CallKind) -> bool
-    ensures { result ≡ spec.is_same_kind kind other }
+    ensures { result ≡ spec.are_one_kind kind other }
 {
     match (kind, other) {
         (CallKind::Request, CallKind::Request) => true,
@@ -100,7 +100,7 @@ fn is_of(kind: CallKind, key: &Key, call: &Option<Call>) -> bool
 
 /// The number, from 1, of the first message of this kind and transaction.
 pub fn number_of(calls: &[Option<Call>], kind: CallKind, key: &Key) -> Option<u64>
-    ensures { result ≡ spec.number_of kind key.now calls.now }
+    ensures { result ≡ spec.call_number kind key.now calls.now }
 {
     for place in 0..calls.len() {
         if is_of(kind, key, &calls[place]) {

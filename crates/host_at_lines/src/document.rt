@@ -8,7 +8,7 @@ ghost use Rattle.scenario.specs.Scenario.{top_keys};
 ghost use Rattle.scenario_fields.specs.Fault.{Gives};
 ghost use Rattle.scenario_fields.specs.Fields.{only};
 ghost use Rattle.scenario_fields.specs.TablePaths.{path};
-ghost use Rattle.host_at_lines.specs.Document.{issuer_of, ReadsIssuer};
+ghost use Rattle.host_at_lines.specs.Document.{issuer_in_tables, ReadsIssuer};
 
 use issuer_host::{Account, HostKeys};
 use scenario::account::accounts_at;
@@ -32,9 +32,9 @@ fn only_top_keys(fields: &Fields) -> Result<(), ScenarioFault>
 }
 
 /// The issuer of a document.
-#[tactic(auto, unfolding(crate::specs::Document::issuer_of))]
+#[tactic(auto, unfolding(crate::specs::Document::issuer_in_tables))]
 fn issuer_in(alloc: Global, document: &Table) -> Result<Issuer, ScenarioFault>
-    ensures exact { Gives (λ issuer. record { keys = issuer.keys; accounts = issuer.accounts.items }) result (issuer_of (table_view document.now)) }
+    ensures exact { Gives (λ issuer. record { keys = issuer.keys; accounts = issuer.accounts.items }) result (issuer_in_tables (table_view document.now)) }
     ensures rules { IfOk result (λ issuer. All IsAccount issuer.accounts.items) }
 {
     let fields = Fields {

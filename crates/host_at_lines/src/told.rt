@@ -18,7 +18,7 @@ use report_text::{Line, write_line};
 
 /// The answer to what is no line.
 pub fn tell_other(out: &mut LineText)
-    ensures { out.new.items ≡ spec.other_text }
+    ensures { out.new.items ≡ spec.unasked_text }
 {
     out.clear();
     append(out, b"?\n");
@@ -183,7 +183,7 @@ fn put_above(asked: u64, balance: i128, out: &mut LineText)
 /// An amount that is booked, and the held one, where there was one.
 fn put_settled(booked: u64, held: Option<u64>, out: &mut LineText)
     requires room { array_vec_len out.old ≤ 100 }
-    ensures text { out.new.items ≡ out.old.items ++ spec.settled_words booked held }
+    ensures text { out.new.items ≡ out.old.items ++ spec.settled_reason_words booked held }
     ensures len { array_vec_len out.new ≤ array_vec_len out.old + 120 }
 {
     append(out, b"settled ");
@@ -194,7 +194,7 @@ fn put_settled(booked: u64, held: Option<u64>, out: &mut LineText)
 /// The words of a reason, with the number of the earlier message that it speaks of.
 fn put_reason(reason: Reason, earlier: Option<u64>, out: &mut LineText)
     requires room { array_vec_len out.old ≤ 100 }
-    ensures text { out.new.items ≡ out.old.items ++ spec.reason_words earlier reason }
+    ensures text { out.new.items ≡ out.old.items ++ spec.host_reason_words earlier reason }
     ensures len { array_vec_len out.new ≤ array_vec_len out.old + 130 }
 {
     match reason {
@@ -222,7 +222,7 @@ fn put_reason(reason: Reason, earlier: Option<u64>, out: &mut LineText)
 /// That a reply carries scripts.
 fn put_scripts(scripts: bool, out: &mut LineText)
     requires room { array_vec_len out.old ≤ 300 }
-    ensures text { out.new.items ≡ out.old.items ++ spec.scripts_words scripts }
+    ensures text { out.new.items ≡ out.old.items ++ spec.with_scripts_words scripts }
     ensures len { array_vec_len out.new ≤ array_vec_len out.old + 8 }
 {
     if scripts {
@@ -232,7 +232,7 @@ fn put_scripts(scripts: bool, out: &mut LineText)
 
 /// The line of why a reply is as it is.
 fn tell_reason(because: &Because, out: &mut LineText)
-    ensures { out.new.items ≡ spec.because_words because.now }
+    ensures { out.new.items ≡ spec.because_line because.now }
 {
     out.clear();
     append(out, b"because ");

@@ -6,7 +6,7 @@ ghost use Rattle.issuer_host.specs.History.{HostStands};
 ghost use Rattle.line_talk.specs.Talk.{EndsDocument, Served, TalkSinkCount, TalkSourceCount, TalkEnds};
 ghost use Rattle.host_at_lines.specs.Document.{ReadsIssuer};
 ghost use Rattle.host_at_lines.specs.Talk.{IsHostTalk, host_opening};
-ghost use Rattle.host_at_lines.specs.Top.{host_programme, programme_of};
+ghost use Rattle.host_at_lines.specs.Top.{host_programme, host_programme_of};
 
 use crate::at_lines::begin;
 use crate::document::{Issuer, read_issuer};
@@ -97,7 +97,7 @@ pub fn run<S: Source, K: Sink>(
     sink: &mut K,
 ) -> Status
     // Which lines were read, and how far the answers to them were written, by the status.
-    ensures served { Served (programme_of (map string_bytes words.now))
+    ensures served { Served (host_programme_of (map string_bytes words.now))
         (record { first = S.left source.old; left = S.left source.new; before = K.held sink.old; held = K.held sink.new }) result }
     // The counts of faults rise for what failed, and for nothing else.
     ensures source { TalkSourceCount (S.faults source.old) (S.faults source.new) result }

@@ -1,6 +1,7 @@
 //! What a line asks of an issuer's host.
 ghost use Rattle.std.specs.Prelude.{◌≡◌, ◌≤◌, ◌<◌, length, true, IfOk, option_map};
 ghost use Rattle.hex.specs.Hex.{decode_of};
+ghost use Rattle.iso_message.specs.Text as characters;
 ghost use Rattle.host_at_lines.specs.Words as spec;
 ghost use Rattle.host_at_lines.specs.Words.{IsShort};
 
@@ -49,7 +50,7 @@ fn message_of(iso: bool, bytes: &[u8]) -> Word
 
 /// The message that a text spells in hexadecimal.
 fn message_in(alloc: Global, iso: bool, text: &[u8]) -> Result<Word, AllocError>
-    ensures exact { IfOk result (λ word. word ≡ spec.message_in iso (decode_of text.now)) }
+    ensures exact { IfOk result (λ word. word ≡ spec.message_word iso (decode_of text.now)) }
     ensures short { IfOk result IsShort }
 {
     match hex::decode(alloc, text) {
@@ -61,7 +62,7 @@ fn message_in(alloc: Global, iso: bool, text: &[u8]) -> Result<Word, AllocError>
 
 /// Whether each is the character of a decimal digit.
 fn are_numerals(text: &[u8]) -> bool
-    ensures { result ≡ spec.are_numerals text.now }
+    ensures { result ≡ characters.are_numerals text.now }
 {
     text.iter()
         .all(|character| 48 <= *character && *character <= 57)
@@ -71,8 +72,8 @@ fn are_numerals(text: &[u8]) -> bool
 #[tactic(auto, using(crate::proofs::Numerals::numeral_at))]
 fn digits_of(text: &[u8]) -> Digits
     requires few { length text.now ≤ 19 }
-    requires numerals { spec.are_numerals text.now ≡ true }
-    ensures { result ≡ spec.values text.now }
+    requires numerals { characters.are_numerals text.now ≡ true }
+    ensures { result ≡ spec.numeral_values text.now }
 {
     let mut digits = Digits::empty();
     for character in text {
@@ -83,7 +84,7 @@ fn digits_of(text: &[u8]) -> Digits
 
 /// The balance of the account number that a text spells.
 fn balance_in(text: &[u8]) -> Word
-    ensures exact { result ≡ spec.balance_in text.now }
+    ensures exact { result ≡ spec.balance_word text.now }
     ensures short { IsShort result }
 {
     if text.len() <= MOST_DIGITS && are_numerals(text) {
@@ -94,9 +95,9 @@ fn balance_in(text: &[u8]) -> Word
 }
 
 /// What a line asks.
-#[tactic(auto, unfolding(crate::specs::Words::line_word))]
+#[tactic(auto, unfolding(crate::specs::Words::host_word))]
 pub fn word_of(alloc: Global, line: &[u8]) -> Result<Word, AllocError>
-    ensures exact { IfOk result (λ word. word ≡ spec.line_word line.now) }
+    ensures exact { IfOk result (λ word. word ≡ spec.host_word line.now) }
     ensures short { IfOk result IsShort }
 {
     if line == b"accounts".as_slice() {

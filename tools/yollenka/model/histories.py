@@ -9,6 +9,7 @@ from yollenka.respell import call_to_iso
 from yollenka.scenarios import document
 
 from .ciphers import code_of, counted_key, master_key, online_block
+from .comparing import lines_of
 from .document import accounts_of
 from .draw import ISSUER, LARGEST, Draw
 from .issuer import COVERED, Issuer
@@ -221,11 +222,6 @@ class InOneDialect(Histories):
 def histories(seed, number):
     """The history of a number under a seed."""
     return Histories(f"{seed}/{number}").talk()
-
-
-def lines_of(answers):
-    """Answers of one or more lines as the lines that are written."""
-    return "\n".join(answers).split("\n")
 
 
 def answers_to(text, lines):
