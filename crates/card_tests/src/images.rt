@@ -26,7 +26,12 @@ pub fn name_of(rt: &impl Abort, bytes: &[u8]) -> Name {
     Name::new(bytes).expect(rt, "a name")
 }
 
-pub(crate) fn record_of(alloc: Global, sfi: u8, number: u8, size: usize) -> Result<RecordImage, Fail> {
+pub(crate) fn record_of(
+    alloc: Global,
+    sfi: u8,
+    number: u8,
+    size: usize,
+) -> Result<RecordImage, Fail> {
     Ok(RecordImage {
         sfi,
         number,
