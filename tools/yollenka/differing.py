@@ -4,6 +4,8 @@ import subprocess
 from yollenka.builds import kept
 
 NAME = "terminal_at_reader"
+# What its lines begin with that ask something, or end the dialogue.
+ASKS = ("> ", "host > ", "end ")
 WHY = "`./lab judge TRACE` says why"
 WHAT_AND_WHY = "`./lab judge TRACE` says what was wanted there, and why"
 
@@ -24,7 +26,7 @@ def asked(program, terminal, replies):
     """What the terminal asks one after the other, with these replies in between."""
     lines = b"".join(reply.encode() + b"\n" for reply in replies)
     ended = subprocess.run([program], input=b"document %d\n%s%s" % (len(terminal), terminal, lines), capture_output=True)
-    return ended.stdout.decode(errors="replace").splitlines()
+    return [line for line in ended.stdout.decode(errors="replace").splitlines() if line.startswith(ASKS)]
 
 
 def wanted(program, text, place):

@@ -10,6 +10,8 @@ from yollenka.scenarios import document
 # A purchase's keys that act on the card, the link or the terminal's memory, and not on the dialogue; and a lane's.
 NOT_OF_A_DIALOGUE = ("link", "tear", "terminal_tear")
 NOT_OF_A_TERMINAL = ("dialect", "durable")
+# What a terminal's line begins with that tells why a reply of the host can't be read; what it asks stands behind it.
+UNREAD = "? reply "
 # The programs that were looked up.
 FOUND = {}
 
@@ -43,6 +45,12 @@ class Lines:
         """Hands on a line, and gives the next one."""
         self.say(line)
         return self.hear()
+
+    def hear_ask(self):
+        """The next line of a terminal that asks something, or ends."""
+        while (line := self.hear()).startswith(UNREAD):
+            pass
+        return line
 
 
 def program(name):

@@ -178,7 +178,7 @@ def on_a_socket(card, host, port, seconds):
 def at_a_card(terminal, reader, reply, tell):
     """Holds the terminal's dialogue with the card in a reader; `reply` gives the issuer's reply to a message, or None, and `tell`
     takes each line. Gives the terminal's last line."""
-    while (line := terminal.hear()).startswith(("> ", "host > ")):
+    while (line := terminal.hear_ask()).startswith(("> ", "host > ")):
         tell(line)
         said = bytes.fromhex(line.rpartition(" ")[2])
         if line.startswith("host"):

@@ -34,7 +34,8 @@ class Reference:
         text = nothing if got is None else got.hex() or "-"
         line = f"{'' if self.side == CARD else 'host '}< {text}"
         self.fed.append(line)
-        self.take(self.lines.ask(line))
+        self.lines.say(line)
+        self.take(self.lines.hear_ask())
 
     def close(self):
         """Ends the terminal's program."""

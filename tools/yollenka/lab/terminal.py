@@ -21,7 +21,7 @@ from yollenka.lab.live import Host, card_of
 from yollenka.lab.logs import CARD, HOST, Exchange, Purchase
 from yollenka.lab.told import Result, junit, status_of, tap_lines
 from yollenka.lab.walk import FAILED, NOTE, PASSED, WRONG, Line, judge
-from yollenka.lines import program, terminal_document
+from yollenka.lines import UNREAD, program, terminal_document
 from yollenka.readers import PORT
 
 TEXT = """Tries cases at a terminal of your own, each judged as `lab judge` judges a log with the whole lane.
@@ -138,7 +138,7 @@ class Trial:
         elif command:
             sent = bytes.fromhex(command[1])
             self.put(CARD, sent, self.card.answer(sent))
-        else:
+        elif not line.startswith(UNREAD):
             raise Fault(f"{line[:80]!r} is no command, no message and no end")
         return len(self.purchase.exchanges) < MOST_EXCHANGES
 
