@@ -250,11 +250,12 @@ def draw_cases(body, cases, places):
 
 
 def cases_page(title, cases, is_all=False):
-    """A page of many cases (told.Result), as text: all in a table, and the dialogues of those that didn't pass, or of all."""
+    """A page of many cases (told.Result), as text: all in a table, and the dialogues that are known of those that didn't pass, or
+    of all."""
     page, body = sheet(title)
     counts = [f"{sum(case.verdict.status == status for case in cases)} {status}" for status in (PASSED, FAILED, INCONCLUSIVE)]
     add(body, "p", f"{len(cases)} cases: {', '.join(counts)}")
-    shown = [case for case in cases if is_all or case.verdict.status != PASSED]
+    shown = [case for case in cases if case.purchase and (is_all or case.verdict.status != PASSED)]
     places = {id(case): f"part{place}" for place, case in enumerate(shown)}
     draw_cases(body, cases, places)
     for case in shown:

@@ -19,6 +19,7 @@ from yollenka.lab.cover import Coverage
 from yollenka.lab.facts import facts_of_scenario
 from yollenka.lab.live import Host, card_of
 from yollenka.lab.logs import CARD, HOST, Exchange, Purchase
+from yollenka.lab.pages import cases_page
 from yollenka.lab.told import Result, junit, status_of, tap_lines
 from yollenka.lab.walk import FAILED, NOTE, PASSED, WRONG, Line, judge
 from yollenka.lines import UNREAD, program, terminal_document
@@ -57,6 +58,7 @@ def arguments(parser):
     parser.add_argument("--all", action="store_true", help="shows each difference behind a fault too")
     parser.add_argument("--coverage", action="store_true", help="tells all that is covered, and what isn't")
     parser.add_argument("--junit", metavar="F", type=a_new_file, help="writes the results as JUnit XML to this file")
+    parser.add_argument("--html", metavar="F", type=a_new_file, help="writes a page of all cases to print to this file")
 
 
 class Quiet(Exception):
@@ -191,7 +193,7 @@ def tried(case, options):
     verdict = judge(trial.purchase, facts_of_scenario(case.scenario, 0, 1))
     if fault:
         verdict = replace(verdict, status=FAILED, lines=[Line(WRONG, fault), *verdict.lines])
-    return result_of(case, options, verdict, trial.lines, began, trial.notes)
+    return replace(result_of(case, options, verdict, trial.lines, began, trial.notes), purchase=trial.purchase)
 
 
 def all_tried(cases, options):
@@ -254,7 +256,9 @@ def run(options):
         coverage.add(case, result.verdict)
         print("\n".join(tap_lines(len(results), result, options.all)), flush=True)
     print("\n".join(f"# {line}" for line in coverage.lines(options.coverage)))
+    title = f"lab terminal {shlex.join(options.command or ['--pcsc'])}"
     if options.junit:
-        at = shlex.join(options.command or ["--pcsc"])
-        options.junit.write_text("\n".join(junit(results, f"lab terminal {at}")) + "\n")
+        options.junit.write_text("\n".join(junit(results, title)) + "\n")
+    if options.html:
+        options.html.write_text(cases_page(title, results))
     return status_of(results)
