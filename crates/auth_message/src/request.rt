@@ -1,18 +1,32 @@
-ghost use Rattle.std.specs.Prelude.{◌≡◌, MatchResult, IfOk, Ok, Err};
+ghost use Rattle.std.specs.Prelude.{◌≡◌, MatchResult, IfOk, None, Ok, Err};
 ghost use Rattle.auth_message.specs.Accepted.{AreDigitBytes};
 ghost use Rattle.auth_message.specs.Messages.{request_at};
 
 use crate::fault::MessageFault;
 use crate::fields::Fields;
 use crate::groups::{Named, Paid, read_named, read_paid};
+use emv_dict::Digits;
 use std::marker::Model;
 
 /// The fields of a request, each named by its tag.
 #[derive(Drop)]
 pub struct RequestFields<'a> {
-    pub named: Named,
+    pub t9f1c: [u8; 8],
+    /// The account number of 5A.
+    pub pan: Digits,
+    pub t5f34: Option<[u8; 1]>,
     pub t5f24: [u8; 3],
-    pub paid: Paid,
+    pub t9f02: [u8; 6],
+    pub t9f03: [u8; 6],
+    pub t9f1a: [u8; 2],
+    pub t95: [u8; 5],
+    pub t5f2a: [u8; 2],
+    pub t9a: [u8; 3],
+    pub t9c: [u8; 1],
+    pub t9f37: [u8; 4],
+    pub t82: [u8; 2],
+    pub t9f36: [u8; 2],
+    pub t9f26: [u8; 8],
     /// At most 32 bytes.
     pub t9f10: &'a [u8],
     pub tdf11: Option<[u8; 8]>,
@@ -23,12 +37,131 @@ impl<'a> Model for RequestFields<'a> {
 
     ghost Value = { RequestData };
 
-    ghost view = { λ f. record { named = f.named; t5f24 = f.t5f24; paid = f.paid; t9f10 = f.t9f10.now; tdf11 = f.tdf11 } };
+    ghost view = { λ f. record {
+      named = record { t9f1c = f.t9f1c; pan = f.pan; t5f34 = f.t5f34 };
+      t5f24 = f.t5f24;
+      paid = record {
+        t9f02 = f.t9f02;
+        t9f03 = f.t9f03;
+        t9f1a = f.t9f1a;
+        t95 = f.t95;
+        t5f2a = f.t5f2a;
+        t9a = f.t9a;
+        t9c = f.t9c;
+        t9f37 = f.t9f37;
+        t82 = f.t82;
+        t9f36 = f.t9f36;
+        t9f26 = f.t9f26;
+      };
+      t9f10 = f.t9f10.now;
+      tdf11 = f.tdf11;
+    } };
 
     ghost use Rattle.std.specs.Prelude.{length, ◌≡◌, IfSome};
     ghost use Rattle.auth_message.specs.Data.{NamedSizes, PaidSizes};
 
-    ghost invariant = { λ f. NamedSizes f.named × (length f.t5f24 ≡ 3) × PaidSizes f.paid × IfSome f.tdf11 (λ v. length v ≡ 8) };
+    ghost invariant = { λ f. NamedSizes (record { t9f1c = f.t9f1c; pan = f.pan; t5f34 = f.t5f34 })
+        × (length f.t5f24 ≡ 3)
+        × PaidSizes (record {
+          t9f02 = f.t9f02;
+          t9f03 = f.t9f03;
+          t9f1a = f.t9f1a;
+          t95 = f.t95;
+          t5f2a = f.t5f2a;
+          t9a = f.t9a;
+          t9c = f.t9c;
+          t9f37 = f.t9f37;
+          t82 = f.t82;
+          t9f36 = f.t9f36;
+          t9f26 = f.t9f26;
+        })
+        × IfSome f.tdf11 (λ v. length v ≡ 8) };
+}
+
+impl<'a> RequestFields<'a> {
+    /// The fields of a request whose parts are these.
+    pub fn from_parts(
+        named: Named,
+        t5f24: [u8; 3],
+        paid: Paid,
+        t9f10: &'a [u8],
+        tdf11: Option<[u8; 8]>,
+    ) -> RequestFields<'a>
+        ensures { result ≡ record { named = named; t5f24 = t5f24; paid = paid; t9f10 = t9f10.now; tdf11 = tdf11 } }
+    {
+        let mut fields = RequestFields::without_pin(named, t5f24, paid, t9f10);
+        fields.tdf11 = tdf11;
+        fields
+    }
+
+    /// The fields of a request in which no PIN goes to the issuer.
+    fn without_pin(named: Named, t5f24: [u8; 3], paid: Paid, t9f10: &'a [u8]) -> RequestFields<'a>
+        ensures { result ≡ record { named = named; t5f24 = t5f24; paid = paid; t9f10 = t9f10.now; tdf11 = None } }
+    {
+        let Named { t9f1c, pan, t5f34 } = named;
+        let Paid {
+            t9f02,
+            t9f03,
+            t9f1a,
+            t95,
+            t5f2a,
+            t9a,
+            t9c,
+            t9f37,
+            t82,
+            t9f36,
+            t9f26,
+        } = paid;
+        RequestFields {
+            t9f1c,
+            pan,
+            t5f34,
+            t5f24,
+            t9f02,
+            t9f03,
+            t9f1a,
+            t95,
+            t5f2a,
+            t9a,
+            t9c,
+            t9f37,
+            t82,
+            t9f36,
+            t9f26,
+            t9f10,
+            tdf11: None,
+        }
+    }
+
+    /// What names the transaction.
+    pub fn named(&self) -> Named
+        ensures { result ≡ self.now.named }
+    {
+        Named {
+            t9f1c: self.t9f1c,
+            pan: self.pan.copy(),
+            t5f34: self.t5f34,
+        }
+    }
+
+    /// What was paid.
+    pub fn paid(&self) -> Paid
+        ensures { result ≡ self.now.paid }
+    {
+        Paid {
+            t9f02: self.t9f02,
+            t9f03: self.t9f03,
+            t9f1a: self.t9f1a,
+            t95: self.t95,
+            t5f2a: self.t5f2a,
+            t9a: self.t9a,
+            t9c: self.t9c,
+            t9f37: self.t9f37,
+            t82: self.t82,
+            t9f36: self.t9f36,
+            t9f26: self.t9f26,
+        }
+    }
 }
 
 /// Reads a request's fields.
@@ -43,11 +176,5 @@ pub fn read_request<'a>(fields: &mut Fields<'a>) -> Result<RequestFields<'a>, Me
     let t9f10 = fields.some(0x9F10, 0, 32)?;
     let tdf11 = fields.fixed_if_there(0xDF11, false)?;
     fields.end()?;
-    Ok(RequestFields {
-        named,
-        t5f24,
-        paid,
-        t9f10,
-        tdf11,
-    })
+    Ok(RequestFields::from_parts(named, t5f24, paid, t9f10, tdf11))
 }

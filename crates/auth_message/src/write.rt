@@ -31,9 +31,9 @@ pub fn write_request(fields: &RequestFields, out: &mut Message)
     ensures message { IsCoded fields.now.paid.t5f2a fields.now.paid.t9c → IsMessage out.new.items }
 {
     let mut value = Message::new();
-    put_named(&mut value, &fields.named);
+    put_named(&mut value, &fields.named());
     put(&mut value, 0x5F24, &fields.t5f24);
-    put_paid(&mut value, &fields.paid);
+    put_paid(&mut value, &fields.paid());
     put(&mut value, 0x9F10, fields.t9f10);
     put_if_there(&mut value, 0xDF11, &fields.tdf11);
     finish(out, 0xE1, &value);
@@ -48,8 +48,8 @@ pub fn write_presentment(fields: &PresentFields, out: &mut Message)
     ensures message { IsCoded fields.now.paid.t5f2a fields.now.paid.t9c → IsMessage out.new.items }
 {
     let mut value = Message::new();
-    put_named(&mut value, &fields.named);
-    put_paid(&mut value, &fields.paid);
+    put_named(&mut value, &fields.named());
+    put_paid(&mut value, &fields.paid());
     put(&mut value, 0x9F10, fields.t9f10);
     put(&mut value, 0x8A, &fields.t8a);
     finish(out, 0xE3, &value);

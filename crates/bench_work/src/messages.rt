@@ -91,17 +91,12 @@ fn write_card_request(place: u16, counter: u16, out: &mut Message)
     let issuer_data = [0x01, 0x80, 0, 0, 0x03, 0x01];
     let cryptogram = ac(&session_ac(&master, counter), &covered(&paid), &issuer_data);
     paid.t9f26 = cryptogram;
-    let fields = RequestFields {
-        named: Named {
-            t9f1c: *b"TERM0001",
-            pan,
-            t5f34: Some([1]),
-        },
-        t5f24: [0x26, 0x12, 0x31],
-        paid,
-        t9f10: &issuer_data,
-        tdf11: None,
+    let named = Named {
+        t9f1c: *b"TERM0001",
+        pan,
+        t5f34: Some([1]),
     };
+    let fields = RequestFields::from_parts(named, [0x26, 0x12, 0x31], paid, &issuer_data, None);
     write_request(&fields, out);
 }
 

@@ -1,3 +1,4 @@
 mod Allowing
 mod Continuing
+mod Explaining
 mod ShortIn

@@ -81,5 +81,6 @@ answer_in_phase image state phase command = row_or_refusal image state phase (co
 unfoldable pub card_reply : ImageData → List Decided → List Exchange → List ℕ → CardReplyData
 card_reply image ds session command = answer_in_phase image (totals (opening_of image) ds) (phase_of image session) command
 
+-- the same, with the answer's bytes
 abbrev pub card_answer : ImageData → List Decided → List Exchange → List ℕ → CardAnswer
 card_answer image ds session command = answer_said (card_reply image ds session command)

@@ -12,3 +12,6 @@ pub mod SeenReply
 pub mod Selection
 pub mod Session
 pub mod SeenIcc
+pub mod Reasons
+pub mod Foretelling
+pub mod Explained

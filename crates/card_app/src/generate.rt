@@ -72,7 +72,7 @@ fn make_first(
 }
 
 /// The kind of the first cryptogram.
-fn first_of(at: &AtWork<'_>, asked: Kind, given: &TerminalFields) -> Kind
+pub(crate) fn first_of(at: &AtWork<'_>, asked: Kind, given: &TerminalFields) -> Kind
     ensures kind { result ≡ spec.first_kind_for at.now.card_blocked asked at.now.app.now at.now.state.now given.now }
     ensures may { MayDecide at.now.state.now (FirstKind result (spec.sale_for at.now.app.now given.now)) }
 {
@@ -134,7 +134,7 @@ fn make_second(
 }
 
 /// The kind of the second cryptogram, and on what it rests.
-fn second_of(
+pub(crate) fn second_of(
     at: &AtWork<'_>,
     asked: Kind,
     sent: Option<Auth>,

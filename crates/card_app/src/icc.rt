@@ -6,7 +6,10 @@ ghost use Rattle.card_state.specs.Totals.{totals as totals_of};
 ghost use Rattle.emv_ports.specs.Cut.{names_commit, is_plan};
 ghost use Rattle.emv_ports.specs.Memory.{powered_off};
 ghost use Rattle.emv_ports.specs.declared.tear.Tear.{Tear as Plan};
+ghost use Rattle.card_app.specs.Answering.{card_answer};
 ghost use Rattle.card_app.specs.AtWork.{IsAppThere};
+ghost use Rattle.card_app.specs.Foretelling.{decisions_foretold};
+ghost use Rattle.card_app.specs.Reasons.{why_of};
 ghost use Rattle.card_app.specs.SeenIcc.{IccOn, IccOff, IsIccOff, AnswersIcc, CutsIcc, AllowsIcc, StaysCard, LosesCard, icc_is_powered as has_power, icc_losses};
 ghost use Rattle.card_app.specs.Session.{Exchange};
 ghost use Rattle.card_app.specs.SeenCard.{CardOn, AnswersCard, CutsCard, AllowsCard, MayBeCard};
@@ -19,6 +22,8 @@ ghost use Rattle.torn_store.specs.Store.{HasLostPower};
 ghost use Rattle.torn_store.specs.Writing.{LostAt};
 
 use crate::answering::answer;
+use crate::foretelling::{Foretold, decided_by};
+use crate::reason::{Reason, reason_of};
 use crate::reply::Reply;
 use crate::work::CardAtWork;
 use apdu_core::Answer;
@@ -175,6 +180,36 @@ impl<'i, P: Pages> Icc<'i, P> {
             }
             Err(Gone) => Err(Gone),
         }
+    }
+
+    /// What a command would make the card decide that is on. It stays as it is.
+    pub fn foretell(&self, command: &[u8]) -> Foretold
+        requires on { has_power self.now ≡ true }
+        ensures { (session : List Exchange) (ds : List Decided) (plan : Option Plan) (made : ℕ) → IccOn self.now session ds plan made
+            → decisions_foretold result ≡ (card_answer self.now.image ds session command.now).new }
+    {
+        let mut body = Body::new();
+        let at = CardAtWork {
+            image: self.image,
+            state: self.kept.state(),
+            phase: self.phase,
+        };
+        decided_by(&answer(&at, command, &mut body))
+    }
+
+    /// Why the cryptogram that a command would have the card make is of its kind, where it is on; none where it would make
+    /// none.
+    pub fn reason(&self, command: &[u8]) -> Option<Reason>
+        requires on { has_power self.now ≡ true }
+        ensures { (session : List Exchange) (ds : List Decided) (plan : Option Plan) (made : ℕ) → IccOn self.now session ds plan made
+            → result ≡ why_of self.now.image ds session command.now }
+    {
+        let at = CardAtWork {
+            image: self.image,
+            state: self.kept.state(),
+            phase: self.phase,
+        };
+        reason_of(&at, command)
     }
 
     /// Whether the card is on.

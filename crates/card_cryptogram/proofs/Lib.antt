@@ -1,2 +1,3 @@
+pub mod KindMade
 mod Places
 mod ReadBack

@@ -178,7 +178,7 @@ fn is_absent(auth: Auth) -> bool
 }
 
 /// Whether the issuer declines by its card status update: b8 of the first byte is 0.
-fn is_declined(auth: Auth) -> bool
+pub fn is_declined(auth: Auth) -> bool
     ensures { result ≡ spec.is_declined_by_status auth }
 {
     match auth {

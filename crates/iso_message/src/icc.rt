@@ -98,17 +98,13 @@ pub fn request_in<'a>(front: RequestFront, fields: &mut Fields<'a>) -> Found<Req
     let icc = read_icc(fields)?;
     let t9f10 = fields.some(0x9F10, 0, 32)?;
     fields.end()?;
-    Ok(RequestFields {
-        named: Named {
-            t9f1c,
-            pan: front.pan.copy(),
-            t5f34,
-        },
-        t5f24,
-        paid: paid(&front.numbers, &front.acceptor, front.t9c, &icc),
-        t9f10,
-        tdf11,
-    })
+    let named = Named {
+        t9f1c,
+        pan: front.pan.copy(),
+        t5f34,
+    };
+    let paid = paid(&front.numbers, &front.acceptor, front.t9c, &icc);
+    Ok(RequestFields::from_parts(named, t5f24, paid, t9f10, tdf11))
 }
 
 /// The presentment whose other fields are these.
@@ -122,16 +118,13 @@ pub fn present_in<'a>(front: PresentFront, fields: &mut Fields<'a>) -> Found<Pre
     let icc = read_icc(fields)?;
     let t9f10 = fields.some(0x9F10, 0, 32)?;
     fields.end()?;
-    Ok(PresentFields {
-        named: Named {
-            t9f1c,
-            pan: front.pan.copy(),
-            t5f34,
-        },
-        paid: paid(&front.numbers, &front.acceptor, front.t9c, &icc),
-        t9f10,
-        t8a,
-    })
+    let named = Named {
+        t9f1c,
+        pan: front.pan.copy(),
+        t5f34,
+    };
+    let paid = paid(&front.numbers, &front.acceptor, front.t9c, &icc);
+    Ok(PresentFields::from_parts(named, paid, t9f10, t8a))
 }
 
 /// The reversal whose other fields are these.

@@ -117,7 +117,7 @@ fn read_request<'a>(reader: &mut Reader<'a>) -> Result<RequestFields<'a>, IsoFau
     let Ok(found) = request_in(front, &mut fields) else {
         return Err(IsoFault::Field(55));
     };
-    tied(&numbers, found.paid.t9f36)?;
+    tied(&numbers, found.t9f36)?;
     reader.end()?;
     Ok(found)
 }
@@ -133,7 +133,7 @@ fn read_present<'a>(reader: &mut Reader<'a>) -> Result<PresentFields<'a>, IsoFau
     let Ok(found) = present_in(front, &mut fields) else {
         return Err(IsoFault::Field(55));
     };
-    tied(&numbers, found.paid.t9f36)?;
+    tied(&numbers, found.t9f36)?;
     reader.end()?;
     Ok(found)
 }

@@ -89,15 +89,15 @@ fn write_request(request: &RequestFields, out: &mut Message)
     out.clear();
     append(out, b"0100");
     append(out, &request_bits(request.tdf11.is_some()));
-    put_account(out, &request.named.pan);
-    put_processing(out, request.paid.t9c);
-    put_numbers(out, request.paid.t9f02, request.paid.t9f36);
-    put_acceptor(out, request.named.t9f1c, request.paid.t5f2a);
+    put_account(out, &request.pan);
+    put_processing(out, request.t9c);
+    put_numbers(out, request.t9f02, request.t9f36);
+    put_acceptor(out, request.t9f1c, request.t5f2a);
     put_block(out, &request.tdf11);
     let mut items = Message::new();
-    put_if_there(&mut items, 0x5F34, &request.named.t5f34);
+    put_if_there(&mut items, 0x5F34, &request.t5f34);
     put(&mut items, 0x5F24, &request.t5f24);
-    put_icc(&mut items, &icc_data(&request.paid));
+    put_icc(&mut items, &icc_data(&request.paid()));
     put(&mut items, 0x9F10, request.t9f10);
     put_counted(out, &items);
 }
@@ -112,14 +112,14 @@ fn write_present(fields: &PresentFields, out: &mut Message)
     out.clear();
     append(out, b"0220");
     append(out, &present_bits());
-    put_account(out, &fields.named.pan);
-    put_processing(out, fields.paid.t9c);
-    put_numbers(out, fields.paid.t9f02, fields.paid.t9f36);
+    put_account(out, &fields.pan);
+    put_processing(out, fields.t9c);
+    put_numbers(out, fields.t9f02, fields.t9f36);
     append(out, &fields.t8a);
-    put_acceptor(out, fields.named.t9f1c, fields.paid.t5f2a);
+    put_acceptor(out, fields.t9f1c, fields.t5f2a);
     let mut items = Message::new();
-    put_if_there(&mut items, 0x5F34, &fields.named.t5f34);
-    put_icc(&mut items, &icc_data(&fields.paid));
+    put_if_there(&mut items, 0x5F34, &fields.t5f34);
+    put_icc(&mut items, &icc_data(&fields.paid()));
     put(&mut items, 0x9F10, fields.t9f10);
     put_counted(out, &items);
 }

@@ -32,7 +32,7 @@ pub fn reply_to_request(
     ensures online { result.online ≡ is_some (spec.request_reply keys.now (account_with_pan fields.now.named.pan accounts.now) records.now.books fields.now).auth }
     ensures held { is_approved result.code ≡ true → is_open records.now (key_of_request fields.now) (number_in fields.now.paid.t9f02) ≡ true }
 {
-    let place = place_of(accounts, &fields.named.pan);
+    let place = place_of(accounts, &fields.pan);
     let account = account_at(accounts, place);
     let flag = flag_at(served, place);
     request_reply(keys, account, flag, records, fields, out)
@@ -52,7 +52,7 @@ pub fn reply_to_presentment(
     ensures code { result.code ≡ (spec.present_reply keys.now (account_with_pan fields.now.named.pan accounts.now) records.now.books fields.now).code }
     ensures online { result.online ≡ is_some (spec.present_reply keys.now (account_with_pan fields.now.named.pan accounts.now) records.now.books fields.now).auth }
 {
-    let place = place_of(accounts, &fields.named.pan);
+    let place = place_of(accounts, &fields.pan);
     let account = account_at(accounts, place);
     present_reply(keys, account, records, key, fields, out)
 }

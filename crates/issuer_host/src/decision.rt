@@ -42,14 +42,14 @@ fn sequence_number(field: Option<[u8; 1]>) -> u8
 pub fn request_key(fields: &RequestFields) -> Key
     ensures { result ≡ key_of_request fields.now }
 {
-    key(&fields.named.pan, fields.named.t5f34, fields.paid.t9f36)
+    key(&fields.pan, fields.t5f34, fields.t9f36)
 }
 
 /// What names the transaction of a presentment.
 pub fn present_key(fields: &PresentFields) -> Key
     ensures { result ≡ key_of_present fields.now }
 {
-    key(&fields.named.pan, fields.named.t5f34, fields.paid.t9f36)
+    key(&fields.pan, fields.t5f34, fields.t9f36)
 }
 
 /// What names the transaction of a reversal.
@@ -97,7 +97,7 @@ pub fn present_is_genuine(keys: &HostKeys, key: &Key, fields: &PresentFields) ->
     requires { key.now ≡ key_of_present fields.now }
     ensures { result ≡ spec.present_is_genuine keys.now fields.now }
 {
-    is_made_under(&session(&keys.ac, key), &fields.paid, fields.t9f10)
+    is_made_under(&session(&keys.ac, key), &fields.paid(), fields.t9f10)
 }
 
 /// The day of three bytes of digits, which need not be one of the calendar.

@@ -167,13 +167,7 @@ impl<'a> Host<'a> {
             fields,
             out,
         );
-        let kept = kept(
-            self.alloc,
-            amount(fields.paid.t9f02),
-            message,
-            answered,
-            out,
-        )?;
+        let kept = kept(self.alloc, amount(fields.t9f02), message, answered, out)?;
         self.records.keep_request(&key, kept)?;
         if answered.online {
             let place = place_of(self.accounts, &key.pan);
@@ -211,13 +205,7 @@ impl<'a> Host<'a> {
             fields,
             out,
         );
-        let kept = kept(
-            self.alloc,
-            amount(fields.paid.t9f02),
-            message,
-            answered,
-            out,
-        )?;
+        let kept = kept(self.alloc, amount(fields.t9f02), message, answered, out)?;
         self.records.keep_presentment(&key, kept)
     }
 

@@ -60,10 +60,10 @@ fn request_reason(
     if let Some(kept) = records.request(&key) {
         return again_reason(kept, message);
     }
-    let Some(account) = find_account(accounts, &fields.named.pan) else {
+    let Some(account) = find_account(accounts, &fields.pan) else {
         return Reason::UnknownAccount;
     };
-    if !is_made_under(&session(&keys.ac, &key), &fields.paid, fields.t9f10) {
+    if !is_made_under(&session(&keys.ac, &key), &fields.paid(), fields.t9f10) {
         return Reason::WrongCryptogram;
     }
     genuine_reason(keys, account, records, &key, fields)
@@ -86,8 +86,8 @@ fn genuine_reason(
     if account.blocked {
         return Reason::Blocked;
     }
-    if fields.paid.t5f2a != account.currency {
-        return other_currency(account, fields.paid.t5f2a);
+    if fields.t5f2a != account.currency {
+        return other_currency(account, fields.t5f2a);
     }
     if records.reversal(key).is_some() {
         return Reason::Reversed;
@@ -95,16 +95,16 @@ fn genuine_reason(
     if records.presentment(key).is_some() {
         return Reason::Presented;
     }
-    if day(fields.t5f24).is_before(&day(fields.paid.t9a)) {
+    if day(fields.t5f24).is_before(&day(fields.t9a)) {
         return Reason::Expired {
             expiry: fields.t5f24,
-            day: fields.paid.t9a,
+            day: fields.t9a,
         };
     }
     if pin_is_wrong(&keys.pin, account, fields.tdf11) {
         return Reason::WrongPin;
     }
-    let amount = amount_of(fields.paid.t9f02);
+    let amount = amount_of(fields.t9f02);
     let balance = balance_of(account, records);
     if balance < i128::from(amount) {
         return Reason::AboveBalance { amount, balance };
@@ -143,7 +143,7 @@ fn present_reason(
     if let Some(kept) = records.presentment(&key) {
         return again_reason(kept, message);
     }
-    match find_account(accounts, &fields.named.pan) {
+    match find_account(accounts, &fields.pan) {
         Some(account) => booking_reason(keys, account, records, &key, fields),
         None => Reason::UnknownAccount,
     }
@@ -164,14 +164,14 @@ fn booking_reason(
     if !present_is_genuine(keys, key, fields) {
         return Reason::WrongCryptogram;
     }
-    if fields.paid.t5f2a != account.currency {
-        return other_currency(account, fields.paid.t5f2a);
+    if fields.t5f2a != account.currency {
+        return other_currency(account, fields.t5f2a);
     }
     if records.is_released(key) {
         return Reason::Reversed;
     }
     Reason::Settled {
-        amount: amount_of(fields.paid.t9f02),
+        amount: amount_of(fields.t9f02),
         held: approved_request(records, key),
     }
 }

@@ -64,7 +64,7 @@ pub fn request_reply(
     };
     let key = request_key(fields);
     let session = session(&keys.ac, &key);
-    if !is_made_under(&session, &fields.paid, fields.t9f10) {
+    if !is_made_under(&session, &fields.paid(), fields.t9f10) {
         return plain(Code::Declined, out);
     }
     let code = request_code(keys, account, records, &key, fields);
@@ -86,7 +86,7 @@ fn online_reply(
     requires scripts { AreScripts scripts.now }
     ensures { out.new.items ≡ said_bytes (record { code = code; auth = Some (response_under session.now account.now fields.now code); scripts = scripts.now }) }
 {
-    let response = issuer_data(session, account, fields.paid.t9f26, code);
+    let response = issuer_data(session, account, fields.t9f26, code);
     write_reply(code.bytes(), Some(&response), scripts, out);
 }
 
@@ -114,7 +114,7 @@ fn scripts(
     if account.scripts.is_empty() {
         return bytes;
     }
-    let cryptogram = fields.paid.t9f26;
+    let cryptogram = fields.t9f26;
     let script_keys = ScriptKeys {
         mac: session_script(&master_key(&keys.mac, &key.pan, key.sequence), cryptogram),
         enc: session_script(&master_key(&keys.enc, &key.pan, key.sequence), cryptogram),

@@ -4,9 +4,7 @@ use crate::iso_samples::{
     PLAIN_REPLY, PRESENTMENT, PRESENTMENT_ITEMS, REPLY, REPLY_ITEMS, REQUEST, REQUEST_ITEMS,
     REVERSAL,
 };
-use auth_message::{
-    Incoming, Message, Named, Paid, Reply, RequestFields, read_message, read_reply,
-};
+use auth_message::{Incoming, Message, Reply, RequestFields, read_message, read_reply};
 use emv_dict::Digits;
 use iso_message::{
     CallKind, IsoFault, read_iso_call, read_iso_reply, write_iso_call, write_iso_reply,
@@ -217,7 +215,7 @@ fn is_read_again(rt: &impl Abort, count: usize, block: Option<[u8; 8]>) -> bool 
     write_with(rt, count, block, &mut out);
     match read_iso_call(out.as_slice()) {
         Ok(Incoming::Request(fields)) => {
-            fields.named.pan.len() == count && fields.named.t5f34.is_none() && fields.tdf11 == block
+            fields.pan.len() == count && fields.t5f34.is_none() && fields.tdf11 == block
         }
         _ => false,
     }
@@ -282,25 +280,21 @@ fn write_with(rt: &impl Abort, count: usize, block: Option<[u8; 8]>, out: &mut M
     assert!(rt; 13 <= count && count <= 19);
     let digits = [4; 19];
     let fields = RequestFields {
-        named: Named {
-            t9f1c: *b"TERM0001",
-            pan: Digits::new(&digits[..count]).expect(rt, "each number is a digit"),
-            t5f34: None,
-        },
+        t9f1c: *b"TERM0001",
+        pan: Digits::new(&digits[..count]).expect(rt, "each number is a digit"),
+        t5f34: None,
         t5f24: [0x26, 0x12, 0x31],
-        paid: Paid {
-            t9f02: [0, 0, 0, 0, 0x25, 0],
-            t9f03: [0, 0, 0, 0, 0, 0],
-            t9f1a: [0x08, 0x40],
-            t95: [0, 0, 0, 0, 0],
-            t5f2a: [0x08, 0x40],
-            t9a: [0x24, 0x06, 0x15],
-            t9c: [0],
-            t9f37: [1, 2, 3, 4],
-            t82: [0x1C, 0],
-            t9f36: [0xFF, 0xFF],
-            t9f26: [0; 8],
-        },
+        t9f02: [0, 0, 0, 0, 0x25, 0],
+        t9f03: [0, 0, 0, 0, 0, 0],
+        t9f1a: [0x08, 0x40],
+        t95: [0, 0, 0, 0, 0],
+        t5f2a: [0x08, 0x40],
+        t9a: [0x24, 0x06, 0x15],
+        t9c: [0],
+        t9f37: [1, 2, 3, 4],
+        t82: [0x1C, 0],
+        t9f36: [0xFF, 0xFF],
+        t9f26: [0; 8],
         t9f10: &[],
         tdf11: block,
     };

@@ -62,15 +62,15 @@ const PAN: [u8; 16] = [4, 7, 6, 1, 7, 3, 9, 0, 0, 1, 0, 1, 0, 0, 1, 0];
 fn are_read() -> [(&'static str, bool); 3] {
     let request = match read_message(&REQUEST) {
         Ok(Incoming::Request(request)) => {
-            request.named.pan.as_slice() == PAN.as_slice()
-                && request.named.t5f34 == Some([1])
-                && request.named.t9f1c == *b"TERM0001"
+            request.pan.as_slice() == PAN.as_slice()
+                && request.t5f34 == Some([1])
+                && request.t9f1c == *b"TERM0001"
                 && request.tdf11.is_none()
         }
         _ => false,
     };
     let presentment = match read_message(&PRESENTMENT) {
-        Ok(Incoming::Present(fields)) => fields.t8a == *b"Y1" && fields.paid.t9f36 == [0, 11],
+        Ok(Incoming::Present(fields)) => fields.t8a == *b"Y1" && fields.t9f36 == [0, 11],
         _ => false,
     };
     let reversal = match read_message(&REVERSAL) {

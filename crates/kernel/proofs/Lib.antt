@@ -17,6 +17,7 @@ mod Leaving
 mod Took
 mod Falling
 mod Growing
+mod Instructions
 mod Turning
 pub mod Telling
 mod Restricting

@@ -1,14 +1,18 @@
 -- What a dialogue tells of the host at any time, and what is captured at its end.
 use Rattle.std.proofs.Common.{◌≡◌, refl, sym, ap, ◌∙◌, ℕ, Bool, true, false, List, [], ◌∷◌, Option, Some, None, is_some, option_map, Result, Ok, Err, if◌then◌else◌}
 use Rattle.std.proofs.lemmas.Option.{same_Some}
-use Rattle.std.specs.Prelude.{◌&&◌, ◌||◌, not}
+use Rattle.std.specs.Prelude.{◌&&◌, ◌||◌, not, slice_index}
 use Rattle.std.specs.List.{list_any}
 use Rattle.app_select.specs.Candidates.{CandidateData}
 use Rattle.app_select.specs.Selecting.{SelectedData}
+use Rattle.auth_message.specs.Data.{PresentData}
 use Rattle.auth_message.specs.Reply.{ReplyData, reply_of}
+use Rattle.auth_message.specs.Spelling.{present_bytes, reversal_bytes}
 use Rattle.auth_message.specs.declared.fault.MessageFault.{MessageFault}
+use Rattle.auth_message.specs.declared.reversal.ReversalFields.{ReversalFields}
+use Rattle.ber_tlv.specs.Written.{written}
 use Rattle.emv_dict.specs.Progress.{Progress, Wants, Stopped, Done}
-use Rattle.emv_dict.specs.Views.{AcData}
+use Rattle.emv_dict.specs.Views.{AcData, SettingsData, PurchaseData}
 use Rattle.emv_dict.specs.declared.ending.Ending.{Ending}
 use Rattle.emv_dict.specs.declared.ending.Ending.TheVariants.{Approved, Declined, Terminated, CutOff}
 use Rattle.emv_dict.specs.declared.ending.Kind.{Kind}
@@ -19,13 +23,14 @@ use Rattle.emv_dict.specs.declared.purchase.AidRow.{AidRow}
 use Rattle.emv_dict.specs.declared.purchase.Logged.{Logged}
 use Rattle.kernel.specs.StepsInTurn.{Standing, Rest, stands, by_progress, then_step, card_step, cut_off, host_step}
 use Rattle.kernel.specs.Dialogue.{TransactionData, all_failed, left_script, scripts_behind, second, scripts_before, issuer_authentication, authentication_by, has_authentication, unable_online, kind_unable, reply_read, replied, is_offline_only, first_answered, first, analysis, risk, verification, restrictions, read, granted, initiation, initiation_or, candidates_left, dialogue, decision, kind_for, kind_wanted}
-use Rattle.kernel.specs.Ended.{EndData, end_of, end_with, capture, presentment, reversal}
-use Rattle.kernel.specs.Laws.{HostTold, asks_online, is_online_request, is_unsent, is_sent, is_reply_refused, asks_host, is_approved_ending}
+use Rattle.kernel.specs.Ended.{EndData, end_of, end_with, capture, presentment, reversal, results_behind, code_or_zeros}
+use Rattle.kernel.specs.Laws.{HostTold, asks_online, is_online_request, is_unsent, is_sent, is_reply_refused, asks_host, is_approved_ending, captured_tag, due_tag}
 use Rattle.kernel.specs.Reply.{Reply, CardSaid, CardGone, HostSaid, HostSilent, Deed, ToCard, ToHost, Over}
 use Rattle.kernel.specs.declared.stage.OnlineOutcome.{OnlineOutcome}
 use Rattle.kernel.specs.declared.stage.OnlineOutcome.TheVariants.{Replied, Unable}
 use Rattle.object_lists.specs.CardRead.{ReadCard}
 use Rattle.online_step.specs.Authenticate.{authentication_step}
+use Rattle.online_step.specs.Captures.{presentment_of, presentment_data, reversal_of, reversal_data}
 use Rattle.read_records.specs.Options.{Opened}
 use Rattle.script_run.specs.Ran.{template_ran, no_script}
 use Rattle.terminal_state.specs.StepResults.{StepResult, StateSoFarData, state_so_far, latest, open_of, sets_counter, sets_ac, sets_card, HasVerified, HasJudged, HasAnalysed, HasFirst, HasReply, WasUnable, HasAuthenticated, HasRunBefore, HasSecond, HasRunBehind}
@@ -347,17 +352,39 @@ dialogue_told outset replies =
 pub host_told : (outset : Outset) (replies : List Reply) → HostTold outset (dialogue outset replies)
 host_told outset replies = let told = dialogue_told outset replies in record { unsent = told.0; asked = told.1 }
 
-some_mapped : {A B : Type 0} (f : A → B) (o : Option A) → is_some (option_map f o) ≡ is_some o
-some_mapped f None = refl
-some_mapped f (Some x) = refl
+-- what the messages begin with
+present_tag : (fields : PresentData) → slice_index (present_bytes fields) 0 ≡ 0xE3
+unfolding present_bytes written
+present_tag fields = refl
 
-presented : (outset : Outset) (card : ReadCard) (m : StateSoFarData) → is_some m.last ≡ true → is_some (presentment outset card m) ≡ true
+reversal_tag : (fields : ReversalFields) → slice_index (reversal_bytes fields) 0 ≡ 0xE4
+unfolding reversal_bytes written
+reversal_tag fields = refl
+
+presentment_tag : (card : ReadCard) (settings : SettingsData) (purchase : PurchaseData) (tvr : ℕ) (code : List ℕ) (ac : Option AcData) → is_some ac ≡ true
+    → captured_tag (option_map (λ ac. presentment_of card settings purchase tvr ac code) ac) ≡ Some 0xE3
+unfolding presentment_of
+presentment_tag card settings purchase tvr code None there = cc
+presentment_tag card settings purchase tvr code (Some ac) there = ap (λ (tag : ℕ). Some tag) (present_tag (presentment_data card settings purchase tvr ac code))
+
+counted_tag : (card : ReadCard) (settings : SettingsData) (purchase : PurchaseData) (code : List ℕ) (counter : Option ℕ) → is_some counter ≡ true
+    → captured_tag (option_map (λ counter. reversal_of card settings purchase counter code) counter) ≡ Some 0xE4
+unfolding reversal_of
+counted_tag card settings purchase code None there = cc
+counted_tag card settings purchase code (Some counter) there = ap (λ (tag : ℕ). Some tag) (reversal_tag (reversal_data card settings purchase counter code))
+
+presented : (outset : Outset) (card : ReadCard) (m : StateSoFarData) → is_some m.last ≡ true → captured_tag (presentment outset card m) ≡ Some 0xE3
 unfolding presentment
-presented outset card m there = some_mapped _ m.last ∙ there
+presented outset card m there =
+    presentment_tag card outset.settings outset.purchase (results_behind card m.tvr_when_first m.tvr_when_second) (code_or_zeros m.code) m.last there
 
-reversed : (outset : Outset) (card : ReadCard) (m : StateSoFarData) (may : Bool) → m.is_open ≡ may → (may ≡ true → is_some m.counter ≡ true) → is_some (reversal outset card m) ≡ may
+-- a reversal where one may be due, and nothing else
+abbrev reversal_due : Bool → Option ℕ
+reversal_due may = (if may then Some 0xE4 else None)
+
+reversed : (outset : Outset) (card : ReadCard) (m : StateSoFarData) (may : Bool) → m.is_open ≡ may → (may ≡ true → is_some m.counter ≡ true) → captured_tag (reversal outset card m) ≡ reversal_due may
 unfolding reversal
-reversed outset card m true is there = rw is (some_mapped _ m.counter ∙ there refl)
+reversed outset card m true is there = rw is (counted_tag card outset.settings outset.purchase (code_or_zeros m.code) m.counter (there refl))
 reversed outset card m false is there = rw is refl
 
 sent_if : (sent refused : Bool) → (sent && not refused) ≡ true → sent ≡ true
@@ -375,18 +402,18 @@ capture_fits : (outset : Outset) (ending : Ending) (card : Option ReadCard) (m :
     → m.is_open ≡ (sent && not refused)
     → (sent ≡ true → (is_some m.counter ≡ true) × (is_some card ≡ true))
     → (is_approved_ending ending ≡ true → (is_some m.last ≡ true) × (is_some card ≡ true))
-    → is_some (capture outset ending card m) ≡ (is_approved_ending ending || (sent && not refused))
+    → captured_tag (capture outset ending card m) ≡ (if is_approved_ending ending then Some 0xE3 else reversal_due (sent && not refused))
 capture_fits outset (Approved online) None m sent refused is_open when_sent when_good = absurd (cc ((when_good refl).1))
-capture_fits outset (Declined online) None m sent refused is_open when_sent when_good = sym (never_open sent refused (no_card sent (λ is. (when_sent is).1)))
-capture_fits outset (Terminated step cause) None m sent refused is_open when_sent when_good = sym (never_open sent refused (no_card sent (λ is. (when_sent is).1)))
-capture_fits outset (CutOff step) None m sent refused is_open when_sent when_good = sym (never_open sent refused (no_card sent (λ is. (when_sent is).1)))
+capture_fits outset (Declined online) None m sent refused is_open when_sent when_good = sym (ap reversal_due (never_open sent refused (no_card sent (λ is. (when_sent is).1))))
+capture_fits outset (Terminated step cause) None m sent refused is_open when_sent when_good = sym (ap reversal_due (never_open sent refused (no_card sent (λ is. (when_sent is).1))))
+capture_fits outset (CutOff step) None m sent refused is_open when_sent when_good = sym (ap reversal_due (never_open sent refused (no_card sent (λ is. (when_sent is).1))))
 capture_fits outset (Approved online) (Some card) m sent refused is_open when_sent when_good = presented outset card m (when_good refl).0
 capture_fits outset (Declined online) (Some card) m sent refused is_open when_sent when_good = reversed outset card m (sent && not refused) is_open (λ is. (when_sent (sent_if sent refused is)).0)
 capture_fits outset (Terminated step cause) (Some card) m sent refused is_open when_sent when_good = reversed outset card m (sent && not refused) is_open (λ is. (when_sent (sent_if sent refused is)).0)
 capture_fits outset (CutOff step) (Some card) m sent refused is_open when_sent when_good = reversed outset card m (sent && not refused) is_open (λ is. (when_sent (sent_if sent refused is)).0)
 
 captured_by : (outset : Outset) (steps_done : List StepResult) (deed : Deed) (end : EndData) → Told outset (stands steps_done deed) → end_of outset (stands steps_done deed) ≡ Some end
-    → is_some end.capture ≡ (is_approved_ending end.ending || (list_any is_sent steps_done && not (list_any is_reply_refused steps_done)))
+    → captured_tag end.capture ≡ due_tag end.ending steps_done
 captured_by outset steps_done (ToCard command) end told ends = absurd (cc ends)
 captured_by outset steps_done (ToHost message) end told ends = absurd (cc ends)
 captured_by outset steps_done (Over ending) end told ends =
@@ -394,5 +421,5 @@ captured_by outset steps_done (Over ending) end told ends =
     rw (← same) (capture_fits outset ending (latest sets_card None steps_done) (state_so_far steps_done) (list_any is_sent steps_done) (list_any is_reply_refused steps_done) told.2 told.3 told.4)
 
 pub captures_fit : (outset : Outset) (replies : List Reply) (end : EndData) → end_of outset (dialogue outset replies) ≡ Some end
-    → is_some end.capture ≡ (is_approved_ending end.ending || (list_any is_sent (dialogue outset replies).steps_done && not (list_any is_reply_refused (dialogue outset replies).steps_done)))
+    → captured_tag end.capture ≡ due_tag end.ending (dialogue outset replies).steps_done
 captures_fit outset replies end ends = captured_by outset (dialogue outset replies).steps_done (dialogue outset replies).deed end (dialogue_told outset replies) ends

@@ -1,5 +1,5 @@
 -- What holds of every dialogue (EMV 4.3 Book 3 section 10.4, Book 4 section 12.2 and Annex A1).
-use Rattle.std.specs.Prelude.{◌≡◌, ◌⊎◌, ℕ, ◌==◌, Bool, true, false, ◌&&◌, ◌||◌, not, List, [], ◌∷◌, ◌++◌, Option, Some, None, is_some, Result, Ok, Err}
+use Rattle.std.specs.Prelude.{◌≡◌, ◌⊎◌, ℕ, ◌==◌, Bool, true, false, ◌&&◌, ◌||◌, not, if◌then◌else◌, List, [], ◌∷◌, ◌++◌, drop, slice_index, Option, Some, None, is_some, option_map, Result, Ok, Err}
 use Rattle.std.specs.Int.{bit_at}
 use Rattle.std.specs.List.{list_any}
 use Rattle.std.specs.Str.{bytes_eq}
@@ -10,14 +10,16 @@ use Rattle.emv_dict.specs.declared.ending.Ending.TheVariants.{Approved, Declined
 use Rattle.emv_dict.specs.declared.ending.Kind.{Kind}
 use Rattle.emv_dict.specs.declared.ending.Kind.TheVariants.{Aac, Tc, Arqc}
 use Rattle.emv_dict.specs.declared.ending.Step.{Step}
+use Rattle.emv_dict.specs.declared.ending.Step.TheVariants as step
 use Rattle.emv_dict.specs.declared.purchase.AidRow.{AidRow}
 use Rattle.kernel.specs.StepsInTurn.{Standing, stands}
-use Rattle.kernel.specs.Dialogue.{dialogue, is_offline_only}
+use Rattle.kernel.specs.Dialogue.{dialogue, is_offline_only, has_authentication}
 use Rattle.kernel.specs.Ended.{EndData, end_of}
 use Rattle.kernel.specs.Reply.{Reply, CardSaid, CardGone, HostSaid, HostSilent, Deed, ToCard, ToHost, Over}
 use Rattle.object_lists.specs.CardRead.{ReadCard}
 use Rattle.restrictions.specs.Restricted.{restricted}
-use Rattle.terminal_state.specs.StepResults.{StepResult, HasRead, HasRestricted, HasVerified, HasJudged, HasFirst, HasReply, WasUnable, HasAuthenticated, HasRunBefore, HasSecond, HasRunBehind, was_sent, latest, sets_card, state_so_far}
+use Rattle.terminal_state.specs.StepResults.{StepResult, HasRead, HasRestricted, HasVerified, HasJudged, HasAnalysed, HasFirst, HasReply, WasUnable, HasAuthenticated, HasRunBefore, HasSecond, HasRunBehind, was_sent, latest, sets_card, state_so_far}
+use Rattle.terminal_state.specs.Scripts.{templates_of_tag, sound_scripts}
 use Rattle.terminal_state.specs.Terminal.{Outset}
 
 -- what a terminal did at first, and behind each reply
@@ -111,10 +113,79 @@ AsBefore steps_done t =
     (is_cut_off t.deed ≡ false) × (list_any is_silent t.steps_done ≡ list_any is_silent steps_done)
     × (latest sets_reply None t.steps_done ≡ latest sets_reply None steps_done)
 
--- a card that is gone cuts the dialogue off, unless a script 72 runs: then the ending stands
-abbrev pub LeavesBy : Bool → List StepResult → Standing StepResult → Type 0
-LeavesBy false steps_done t = (step : Step) × (t ≡ stands steps_done (Over (CutOff step)))
-LeavesBy true steps_done t = (ending : Ending) × (t.deed ≡ Over ending) × (cuts ending ≡ false)
+-- issuer authentication is finished
+abbrev pub is_authenticated : StepResult → Bool
+is_authenticated (HasAuthenticated good) = true
+is_authenticated other = false
+
+-- those of these templates that haven't run yet
+abbrev pub templates_left : List (List ℕ) → List StepResult → List (List ℕ)
+templates_left templates [] = templates
+templates_left templates (HasRunBefore result ∷ earlier) = drop 1 (templates_left templates earlier)
+templates_left templates (other ∷ earlier) = templates_left templates earlier
+
+-- the scripts run one by one, and then the second GENERATE AC is asked
+abbrev pub step_before : List (List ℕ) → Step
+step_before [] = step.Second
+step_before (template ∷ left) = step.Script
+
+-- the reply's cryptogram is to be checked still, where it has one and the card has the function
+abbrev pub is_unchecked : Option ReadCard → ReplyData → List StepResult → Bool
+is_unchecked None reply steps_done = false
+is_unchecked (Some card) reply steps_done = has_authentication card && is_some reply.auth && not (list_any is_authenticated steps_done)
+
+-- behind the issuer's reply
+abbrev pub step_behind_reply : Option ReplyData → List StepResult → Step
+step_behind_reply None steps_done = step.Second
+step_behind_reply (Some reply) steps_done =
+    if is_unchecked (latest sets_card None steps_done) reply steps_done then step.Authenticate
+    else step_before (templates_left (templates_of_tag 0x71 (sound_scripts reply.scripts)) steps_done)
+
+-- the step that follows this finished one, the latest of all
+abbrev pub step_behind : StepResult → List StepResult → Step
+step_behind (HasRestricted bits) steps_done = step.Verify
+step_behind (HasVerified verified) steps_done = step.Risk
+step_behind (HasAnalysed wanted) steps_done = step.First
+step_behind (HasReply reply) steps_done = step_behind_reply (latest sets_reply None steps_done) steps_done
+step_behind (HasAuthenticated good) steps_done = step_behind_reply (latest sets_reply None steps_done) steps_done
+step_behind (HasRunBefore result) steps_done = step_behind_reply (latest sets_reply None steps_done) steps_done
+step_behind other steps_done = step.Second
+
+-- before the card is read, by the instruction of the command: SELECT, and READ RECORD of the directory; GET PROCESSING
+-- OPTIONS; READ RECORD
+abbrev pub opens_in : ℕ → Step → Bool
+opens_in instruction step.Select = (instruction == 0xA4) || (instruction == 0xB2)
+opens_in instruction step.Initiate = instruction == 0xA8
+opens_in instruction step.Read = instruction == 0xB2
+opens_in instruction other = false
+
+-- a command with this instruction that waits behind these finished steps is one of this step
+abbrev pub IsAskedIn : Step → ℕ → List StepResult → Type 0
+IsAskedIn at instruction [] = opens_in instruction at ≡ true
+IsAskedIn at instruction (finished ∷ earlier) = at ≡ step_behind finished (finished ∷ earlier)
+
+-- the instruction of the command that waits, its second byte
+abbrev pub instruction_of : Deed → ℕ
+instruction_of (ToCard command) = slice_index command 1
+instruction_of (ToHost message) = 0
+instruction_of (Over ending) = 0
+
+-- the step that a card which is gone is named in: that of its power-up before it has answered, and else that of the command
+-- that was asked
+abbrev pub IsLeftIn : Step → Bool → Standing StepResult → Type 0
+IsLeftIn at true s = at ≡ step.Power
+IsLeftIn at false s = IsAskedIn at (instruction_of s.deed) s.steps_done
+
+-- a card that is gone cuts the dialogue off in the step of the command that was asked, unless a script 72 runs: then the
+-- ending stands. `unanswered` tells whether no reply was taken yet.
+abbrev pub LeavesBy : Bool → Bool → Standing StepResult → Standing StepResult → Type 0
+LeavesBy false unanswered s t = (at : Step) × (t ≡ stands s.steps_done (Over (CutOff at))) × IsLeftIn at unanswered s
+LeavesBy true unanswered s t = (ending : Ending) × (t.deed ≡ Over ending) × (cuts ending ≡ false)
+
+-- no reply was taken
+abbrev pub is_unanswered : List Reply → Bool
+is_unanswered [] = true
+is_unanswered (reply ∷ replies) = false
 
 -- the host's silence makes the terminal unable to go online
 abbrev pub IsUnable : List StepResult → Standing StepResult → Type 0
@@ -127,17 +198,17 @@ HeardBy (Err fault) steps_done t = IsUnable steps_done t
 HeardBy (Ok reply) steps_done t =
     (is_cut_off t.deed ≡ false) × (list_any is_silent t.steps_done ≡ list_any is_silent steps_done) × (latest sets_reply None t.steps_done ≡ Some reply)
 
-abbrev pub Turned : Standing StepResult → Reply → Standing StepResult → Type 0
-Turned s (CardSaid answer now) t = AsBefore s.steps_done t
-Turned s CardGone t = LeavesBy (list_any is_second s.steps_done) s.steps_done t
-Turned s (HostSaid reply) t = HeardBy (reply_of reply) s.steps_done t
-Turned s HostSilent t = IsUnable s.steps_done t
+abbrev pub Turned : Bool → Standing StepResult → Reply → Standing StepResult → Type 0
+Turned unanswered s (CardSaid answer now) t = AsBefore s.steps_done t
+Turned unanswered s CardGone t = LeavesBy (list_any is_second s.steps_done) unanswered s t
+Turned unanswered s (HostSaid reply) t = HeardBy (reply_of reply) s.steps_done t
+Turned unanswered s HostSilent t = IsUnable s.steps_done t
 
 -- each reply that is no answer to what was asked changes nothing
 abbrev pub RepliesTurn : Type 0
 RepliesTurn =
     (outset : Outset) (replies : List Reply) (reply : Reply)
-    → let s = dialogue outset replies in let t = dialogue outset (replies ++ reply ∷ []) in (t ≡ s) ⊎ Turned s reply t
+    → let s = dialogue outset replies in let t = dialogue outset (replies ++ reply ∷ []) in (t ≡ s) ⊎ Turned (is_unanswered replies) s reply t
 
 -- what a dialogue tells of the host at any time
 pub record HostTold (outset : Outset) (s : Standing StepResult) : Type 0 where
@@ -152,12 +223,24 @@ pub record HostTold (outset : Outset) (s : Standing StepResult) : Type 0 where
 abbrev pub HostIsTold : Type 0
 HostIsTold = (outset : Outset) (replies : List Reply) → HostTold outset (dialogue outset replies)
 
--- something is captured exactly where the ending is an approval, or a request was sent and no reply with a code other
--- than 00 was read; which of both messages it is, is said by `end_of`
+-- the outermost tag of the message that is captured: E3 is a presentment's, E4 a reversal's
+abbrev pub captured_tag : Option (List ℕ) → Option ℕ
+captured_tag message = option_map (λ bytes. slice_index bytes 0) message
+
+-- an approval is presented; a request that was sent is reversed where no reply with a code other than 00 was read and the
+-- ending is no approval
+abbrev pub due_tag : Ending → List StepResult → Option ℕ
+due_tag ending steps_done =
+    if is_approved_ending ending then Some 0xE3
+    else if list_any is_sent steps_done && not (list_any is_reply_refused steps_done) then Some 0xE4
+    else None
+
+-- a presentment is captured exactly where the ending is an approval, a reversal exactly where a request was sent, no reply
+-- with a code other than 00 was read and the ending is no approval, and nothing else
 abbrev pub CapturesFit : Type 0
 CapturesFit =
     (outset : Outset) (replies : List Reply) (end : EndData) → end_of outset (dialogue outset replies) ≡ Some end
-    → is_some end.capture ≡ (is_approved_ending end.ending || (list_any is_sent (dialogue outset replies).steps_done && not (list_any is_reply_refused (dialogue outset replies).steps_done)))
+    → captured_tag end.capture ≡ due_tag end.ending (dialogue outset replies).steps_done
 
 -- once the card is read, the bits of the processing restrictions stand; before it no step is finished
 abbrev pub IsRestricted : Outset → List StepResult → Type 0

@@ -17,8 +17,10 @@ pub fn ends_stay()
 {}
 
 /// What one reply makes of a dialogue. Only a card that is gone cuts it off, and always does, unless a script
-/// behind the second cryptogram runs. The host's silence, or a reply with a fault, makes the terminal unable to
-/// go online behind a message, and nothing else does.
+/// behind the second cryptogram runs. The step that it is named in is that of the command that was asked: by
+/// the steps that are finished, before the card is read by the command's instruction, and its power-up before
+/// any reply. The host's silence, or a reply with a fault, makes the terminal unable to go online behind a
+/// message, and nothing else does.
 pub fn replies_turn()
     ensures { RepliesTurn }
 {}
@@ -28,8 +30,8 @@ pub fn host_is_told()
     ensures { HostIsTold }
 {}
 
-/// What is captured: an approval is presented; a request that was sent, with no reply read with a code other
-/// than 00 and an ending that is no approval, is reversed.
+/// What is captured: a presentment exactly where the ending is an approval, a reversal exactly where a request
+/// was sent, no reply was read with a code other than 00 and the ending is no approval, and nothing else.
 pub fn captures_fit()
     ensures { CapturesFit }
 {}

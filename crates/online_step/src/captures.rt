@@ -5,9 +5,7 @@ ghost use Rattle.emv_dict.specs.Settings.{IsPurchase};
 ghost use Rattle.online_step.specs.Captures.{presentment_of, reversal_of};
 
 use crate::fields::{country, cryptogram, currency, date, identification, number, sequence_number};
-use auth_message::{
-    Message, Named, Paid, PresentFields, ReversalFields, write_presentment, write_reversal,
-};
+use auth_message::{Message, PresentFields, ReversalFields, write_presentment, write_reversal};
 use emv_dict::{Ac, Purchase, Settings, Tvr, amount_bytes};
 use object_lists::CardData;
 
@@ -38,24 +36,20 @@ pub fn presentment(
 {
     let ac = approval.ac;
     let fields = PresentFields {
-        named: Named {
-            t9f1c: identification(settings),
-            pan: card.pan.copy(),
-            t5f34: sequence_number(card),
-        },
-        paid: Paid {
-            t9f02: amount_bytes(purchase.amount),
-            t9f03: amount_bytes(purchase.other),
-            t9f1a: country(settings),
-            t95: approval.tvr.bytes(),
-            t5f2a: currency(purchase),
-            t9a: date(purchase),
-            t9c: [purchase.trade],
-            t9f37: number(purchase),
-            t82: card.aip,
-            t9f36: ac.counter.to_be_bytes(),
-            t9f26: cryptogram(ac),
-        },
+        t9f1c: identification(settings),
+        pan: card.pan.copy(),
+        t5f34: sequence_number(card),
+        t9f02: amount_bytes(purchase.amount),
+        t9f03: amount_bytes(purchase.other),
+        t9f1a: country(settings),
+        t95: approval.tvr.bytes(),
+        t5f2a: currency(purchase),
+        t9a: date(purchase),
+        t9c: [purchase.trade],
+        t9f37: number(purchase),
+        t82: card.aip,
+        t9f36: ac.counter.to_be_bytes(),
+        t9f26: cryptogram(ac),
         t9f10: &ac.iad,
         t8a: approval.code,
     };

@@ -8,7 +8,7 @@ ghost use Rattle.online_step.specs.Request.{enciphered_pin, request_of};
 ghost use Rattle.online_step.specs.TerminalData.{HasTerminalData};
 
 use crate::fields::{cryptogram, expiry, object, sequence_number};
-use auth_message::{Message, Named, Paid, RequestFields, write_request};
+use auth_message::{Message, RequestFields, write_request};
 use ber_tlv::Tag;
 use emv_dict::{Ac, Digits, Settings};
 use env_map::Env;
@@ -35,25 +35,21 @@ pub fn request(
     ensures read { IsMessage out.new.items }
 {
     let fields = RequestFields {
-        named: Named {
-            t9f1c: object(terminal, 0x9f1c),
-            pan: card.pan.copy(),
-            t5f34: sequence_number(card),
-        },
+        t9f1c: object(terminal, 0x9f1c),
+        pan: card.pan.copy(),
+        t5f34: sequence_number(card),
         t5f24: expiry(card),
-        paid: Paid {
-            t9f02: object(terminal, 0x9f02),
-            t9f03: object(terminal, 0x9f03),
-            t9f1a: object(terminal, 0x9f1a),
-            t95: object(terminal, 0x95),
-            t5f2a: object(terminal, 0x5f2a),
-            t9a: object(terminal, 0x9a),
-            t9c: object(terminal, 0x9c),
-            t9f37: object(terminal, 0x9f37),
-            t82: card.aip,
-            t9f36: ac.counter.to_be_bytes(),
-            t9f26: cryptogram(ac),
-        },
+        t9f02: object(terminal, 0x9f02),
+        t9f03: object(terminal, 0x9f03),
+        t9f1a: object(terminal, 0x9f1a),
+        t95: object(terminal, 0x95),
+        t5f2a: object(terminal, 0x5f2a),
+        t9a: object(terminal, 0x9a),
+        t9c: object(terminal, 0x9c),
+        t9f37: object(terminal, 0x9f37),
+        t82: card.aip,
+        t9f36: ac.counter.to_be_bytes(),
+        t9f26: cryptogram(ac),
         t9f10: &ac.iad,
         tdf11: enciphered(settings, card, pin),
     };

@@ -7,7 +7,7 @@ ghost use Rattle.kernel.specs.StepsInTurn.{Standing};
 ghost use Rattle.kernel.specs.Dialogue.{dialogue, restrictions};
 ghost use Rattle.kernel.specs.Fits.{OpeningFits, HasReadCard};
 ghost use Rattle.kernel.specs.Kernel.{KernelStands, StageFits, StageGoes, TradingFits, TradingGoes, outset_in, kernel_next, stage_next, trading_next};
-ghost use Rattle.kernel.specs.Laws.{LeavesBy, is_second};
+ghost use Rattle.kernel.specs.Laws.{LeavesBy, is_second, is_unanswered};
 ghost use Rattle.kernel.specs.Rank.{kernel_rank, stage_rank, opening_rank, trading_rank, rank_behind};
 ghost use Rattle.kernel.specs.Reading.{IsBeforeReading};
 ghost use Rattle.kernel.specs.Reply.{Reply, CardSaid, CardGone, from_host};
@@ -53,10 +53,11 @@ impl<'s> Kernel<'s> {
         requires waits { kernel_next self.old ≡ next.ToCard }
         ensures stands { (replies : List Reply) → KernelStands self.old replies
             → KernelStands self.new (replies ++ CardGone ∷ []) }
-        // It is cut off, unless a script behind the second cryptogram runs: then the ending stands.
+        // It is cut off in the step of the command that was asked, unless a script behind the second cryptogram
+        // runs: then the ending stands.
         ensures leaves { (replies : List Reply) → KernelStands self.old replies
-            → let now = (dialogue (outset_in self.old) replies).steps_done in
-            LeavesBy (list_any is_second now) now (dialogue (outset_in self.old) (replies ++ CardGone ∷ [])) }
+            → let now = dialogue (outset_in self.old) replies in
+            LeavesBy (list_any is_second now.steps_done) (is_unanswered replies) now (dialogue (outset_in self.old) (replies ++ CardGone ∷ [])) }
         ensures outset { outset_in self.new ≡ outset_in self.old }
         ensures nearer { kernel_rank self.new < kernel_rank self.old }
         ensures fresh { self.new.is_spent ≡ false }

@@ -16,7 +16,7 @@ use Rattle.issuer_host.proofs.answering.reply_to_request.Goals as goal
 pub returns-clause-bytes : goal.returns-clause-bytes
 returns-clause-bytes c =
     let f = c.args.fields.now in
-    let pan : c.fields.inside.named.pan ≡ c.args.fields.now.named.pan = ap (λ (d : RequestData). d.named.pan) c.fields.view_is in
+    let pan : c.fields.inside.pan ≡ c.args.fields.now.named.pan = ap (λ (d : RequestData). d.named.pan) c.fields.view_is in
     let place : c.place_of-place.result ≡ account_place c.args.fields.now.named.pan c.args.accounts.now = c.place_of-place.ensures ∙ ap (λ p. account_place p c.args.accounts.now) pan in
     let found : option_map (λ a. a.now) c.account_at-account.result ≡ account_with_pan c.args.fields.now.named.pan c.args.accounts.now =
     c.account_at-account.ensures ∙ ap (account_in c.args.accounts.now) place ∙ account_found c.args.fields.now.named.pan c.args.accounts.now in
@@ -25,7 +25,7 @@ returns-clause-bytes c =
 pub returns-clause-code : goal.returns-clause-code
 returns-clause-code c =
     let f = c.args.fields.now in
-    let pan : c.fields.inside.named.pan ≡ c.args.fields.now.named.pan = ap (λ (d : RequestData). d.named.pan) c.fields.view_is in
+    let pan : c.fields.inside.pan ≡ c.args.fields.now.named.pan = ap (λ (d : RequestData). d.named.pan) c.fields.view_is in
     let place : c.place_of-place.result ≡ account_place c.args.fields.now.named.pan c.args.accounts.now = c.place_of-place.ensures ∙ ap (λ p. account_place p c.args.accounts.now) pan in
     let found : option_map (λ a. a.now) c.account_at-account.result ≡ account_with_pan c.args.fields.now.named.pan c.args.accounts.now =
     c.account_at-account.ensures ∙ ap (account_in c.args.accounts.now) place ∙ account_found c.args.fields.now.named.pan c.args.accounts.now in
@@ -34,7 +34,7 @@ returns-clause-code c =
 pub returns-clause-online : goal.returns-clause-online
 returns-clause-online c =
     let f = c.args.fields.now in
-    let pan : c.fields.inside.named.pan ≡ c.args.fields.now.named.pan = ap (λ (d : RequestData). d.named.pan) c.fields.view_is in
+    let pan : c.fields.inside.pan ≡ c.args.fields.now.named.pan = ap (λ (d : RequestData). d.named.pan) c.fields.view_is in
     let place : c.place_of-place.result ≡ account_place c.args.fields.now.named.pan c.args.accounts.now = c.place_of-place.ensures ∙ ap (λ p. account_place p c.args.accounts.now) pan in
     let found : option_map (λ a. a.now) c.account_at-account.result ≡ account_with_pan c.args.fields.now.named.pan c.args.accounts.now =
     c.account_at-account.ensures ∙ ap (account_in c.args.accounts.now) place ∙ account_found c.args.fields.now.named.pan c.args.accounts.now in
@@ -43,7 +43,7 @@ returns-clause-online c =
 pub request_reply-requires-clause-known : goal.request_reply-requires-clause-known
 request_reply-requires-clause-known c =
     let f = c.args.fields.now in
-    let pan : c.fields.inside.named.pan ≡ c.args.fields.now.named.pan = ap (λ (d : RequestData). d.named.pan) c.fields.view_is in
+    let pan : c.fields.inside.pan ≡ c.args.fields.now.named.pan = ap (λ (d : RequestData). d.named.pan) c.fields.view_is in
     let place : c.place_of-place.result ≡ account_place c.args.fields.now.named.pan c.args.accounts.now = c.place_of-place.ensures ∙ ap (λ p. account_place p c.args.accounts.now) pan in
     let found : option_map (λ a. a.now) c.account_at-account.result ≡ account_with_pan c.args.fields.now.named.pan c.args.accounts.now =
     c.account_at-account.ensures ∙ ap (account_in c.args.accounts.now) place ∙ account_found c.args.fields.now.named.pan c.args.accounts.now in
@@ -53,7 +53,7 @@ request_reply-requires-clause-known c =
 pub request_reply-requires-clause-served : goal.request_reply-requires-clause-served
 request_reply-requires-clause-served c =
     let f = c.args.fields.now in
-    let pan : c.fields.inside.named.pan ≡ c.args.fields.now.named.pan = ap (λ (d : RequestData). d.named.pan) c.fields.view_is in
+    let pan : c.fields.inside.pan ≡ c.args.fields.now.named.pan = ap (λ (d : RequestData). d.named.pan) c.fields.view_is in
     let place : c.place_of-place.result ≡ account_place c.args.fields.now.named.pan c.args.accounts.now = c.place_of-place.ensures ∙ ap (λ p. account_place p c.args.accounts.now) pan in
     let found : option_map (λ a. a.now) c.account_at-account.result ≡ account_with_pan c.args.fields.now.named.pan c.args.accounts.now =
     c.account_at-account.ensures ∙ ap (account_in c.args.accounts.now) place ∙ account_found c.args.fields.now.named.pan c.args.accounts.now in
@@ -63,7 +63,7 @@ request_reply-requires-clause-served c =
 pub returns-clause-held : goal.returns-clause-held
 returns-clause-held c = λ approved.
     let f = c.args.fields.now in
-    let pan : c.fields.inside.named.pan ≡ c.args.fields.now.named.pan = ap (λ (d : RequestData). d.named.pan) c.fields.view_is in
+    let pan : c.fields.inside.pan ≡ c.args.fields.now.named.pan = ap (λ (d : RequestData). d.named.pan) c.fields.view_is in
     let place : c.place_of-place.result ≡ account_place c.args.fields.now.named.pan c.args.accounts.now = c.place_of-place.ensures ∙ ap (λ p. account_place p c.args.accounts.now) pan in
     let found : option_map (λ a. a.now) c.account_at-account.result ≡ account_with_pan c.args.fields.now.named.pan c.args.accounts.now =
     c.account_at-account.ensures ∙ ap (account_in c.args.accounts.now) place ∙ account_found c.args.fields.now.named.pan c.args.accounts.now in

@@ -9,13 +9,13 @@ use Rattle.issuer_host.proofs.reasoning.request_reason.Goals as goal
 
 pub genuine_reason-requires-clause-account : goal.genuine_reason-requires-clause-account
 genuine_reason-requires-clause-account c =
-    let pan = c.fields.inside.named.pan in
+    let pan = c.fields.inside.pan in
     let accounts = c.args.accounts.now in
-    let found : account_with_pan c.fields.inside.named.pan c.args.accounts.now ≡ Some c.in-Some-find_account.account.now = sym c.find_account.ensures ∙ ap (option_map (λ a. a.now)) c.in-Some-find_account.is in
+    let found : account_with_pan c.fields.inside.pan c.args.accounts.now ≡ Some c.in-Some-find_account.account.now = sym c.find_account.ensures ∙ ap (option_map (λ a. a.now)) c.in-Some-find_account.is in
     valid_found pan accounts c.in-Some-find_account.account.now (recursion_from_All IsAccount accounts c.requires.valid) found
 
 pub genuine_reason-requires-clause-known : goal.genuine_reason-requires-clause-known
 genuine_reason-requires-clause-known c =
-    let pan = c.fields.inside.named.pan in
-    let found : account_with_pan c.fields.inside.named.pan c.args.accounts.now ≡ Some c.in-Some-find_account.account.now = sym c.find_account.ensures ∙ ap (option_map (λ a. a.now)) c.in-Some-find_account.is in
+    let pan = c.fields.inside.pan in
+    let found : account_with_pan c.fields.inside.pan c.args.accounts.now ≡ Some c.in-Some-find_account.account.now = sym c.find_account.ensures ∙ ap (option_map (λ a. a.now)) c.in-Some-find_account.is in
     left_known c.args.accounts.now c.args.records.now pan c.in-Some-find_account.account.now c.requires.openings found
