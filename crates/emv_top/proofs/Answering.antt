@@ -3,7 +3,7 @@ use Rattle.std.proofs.Common.{◌≡◌, ℕ, zero, suc, List, Option, Some, Ok,
 use Rattle.emv_ports.specs.Memory.{Memory}
 use Rattle.emv_ports.specs.Reading.{ReadsUpTo}
 use Rattle.emv_top.specs.Answers.{Answers, AnswersRead, AreSettled, Completes, IsRunCut, IsInputRefused, IsRunWhole, Leaves, Plays, Refuses, ToldReplays}
-use Rattle.emv_top.specs.RunsSoFar.{Replays, ReadsLane, RunWasStopped, all_lines, shown_lines}
+use Rattle.emv_top.specs.RunsSoFar.{Replays, RunOfBytes, ReadsLane, RunWasStopped, all_lines, shown_lines}
 use Rattle.emv_top.specs.Decided.{DecidedRun, RunsAreDecided}
 use Rattle.emv_top.specs.Input.{IsInput}
 use Rattle.emv_top.specs.StatusCode.{SourceCount, status_code}
@@ -12,6 +12,7 @@ use Rattle.emv_top.specs.declared.status.Status.TheVariants.{Done, Refused, Usag
 use Rattle.emv_top.specs.declared.words.Task.{Task}
 use Rattle.emv_top.specs.declared.words.Task.TheVariants.{Read, Replay}
 use Rattle.emv_top.proofs.Going.{stopped_with, completes_with}
+use Rattle.emv_top.proofs.LineBytes.{told_lines}
 use Rattle.emv_top.proofs.ReadRuns.{read_fair}
 use Rattle.emv_top.proofs.ReadSettled.{read_settled, read_calm}
 use Rattle.emv_top.proofs.Settled.{run_settled}
@@ -22,8 +23,9 @@ use Rattle.scenario_fields.specs.Line.{refused_line}
 use Rattle.scenario_fields.specs.declared.fault.ScenarioFault.{ScenarioFault}
 use Rattle.txn_replay.specs.Captured.{CapturesAreSent, LostAreTold, WholeRunsTellLost}
 use Rattle.txn_replay.specs.Laws.{RunsAreFair, WholeRunsAreFair, IsFair}
+use Rattle.txn_replay.specs.Named.{RunsNameCards, WholeRunsNameCards}
 use Rattle.txn_replay.specs.Reading.{ReadRun, to_read}
-use Rattle.txn_replay.specs.Respelled.{WholeDialectsShow}
+use Rattle.txn_replay.specs.Respelled.{AreMessages, WholeDialectsShow}
 use Rattle.txn_replay.specs.Run.{Finished, Run}
 use Rattle.txn_replay.specs.StandAlone.{LanesStandAlone}
 use Rattle.txn_replay.specs.Stored.{StoresAreEmptied}
@@ -33,21 +35,23 @@ use Rattle.txn_replay.specs.Seen.{WorldSeen, WorldStands}
 
 -- in a whole run purchases are decided, the losses of cards and terminals told, and dialects spelled, and a lane that shares
 -- nothing runs as if it were alone; the laws are kept, and no decision is open
-pub decided_whole : (s : ScenarioData) (v : WorldSeen) (old new : Option (List ℕ)) → WholeRunsAreFair → RunsAreDecided → WholeRunsTellLosses
-    → WholeRunsTellLost → WholeDialectsShow → CapturesAreSent → StoresAreEmptied → LanesStandAlone → IsScenario s → Completes (Run s) (WorldStands v) old new
+pub decided_whole : (s : ScenarioData) (v : WorldSeen) (old new : Option (List ℕ)) → WholeRunsAreFair → RunsAreDecided → WholeRunsNameCards → WholeRunsTellLosses
+    → WholeRunsTellLost → WholeDialectsShow → CapturesAreSent → StoresAreEmptied → LanesStandAlone
+    → ((w : World) → WorldStands v w → AreMessages w) → IsScenario s → Completes (RunOfBytes s) (WorldStands v) old new
     → Completes (DecidedRun s) (λ w. WorldStands v w × IsFair s w × AreSettled s w) old new
-decided_whole s v old new law decides losses lost dialects captures emptied alone fits whole =
-    let run : Run s whole.lines whole.world = whole.run in
+decided_whole s v old new law decides names losses lost dialects captures emptied alone messages fits whole =
+    let run : Run s whole.lines whole.world = whole.run.0 in
     record {
       lines = whole.lines;
       world = whole.world;
       run = record {
         run = run;
         decided = decides s Finished run.count run.choices run.reported whole.world run.reached fits;
+        told = told_lines whole.lines whole.run.1 (names s whole.lines whole.world fits run);
         losses = losses s whole.lines whole.world fits run;
         lost = lost s whole.lines whole.world run;
         dialects = λ iso.
-            (let other = dialects s iso whole.lines whole.world run in record { others = other.0; run = other.1; respelled = other.2 });
+            (let other = dialects s iso whole.lines whole.world fits run (messages whole.world whole.stands) in record { others = other.0; run = other.1; respelled = other.2 });
         captures = λ l on. captures s whole.lines whole.world l fits.tables.one_copy on run;
         emptied = λ l on. emptied s Finished run.count run.choices run.reported whole.world l on fits.tables.one_copy run.reached (inl refl);
         alone = λ pans l apart. alone pans s l whole.lines whole.world fits apart run;
@@ -67,10 +71,15 @@ module _ (s : ScenarioData) (v : WorldSeen) (told : v.scenario ≡ s) (old new :
       completes_with (DecidedRun s) (λ w. WorldStands v w × IsFair s w × AreSettled s w) (λ w. Leaves s bank tally w × AreSettled s w) old new
       (λ ls w run stands. (left w stands.0 stands.1, stands.2)) whole
 
-  pub cut_replay : RunsAreFair → RunsTellLosses → LostAreTold → IsScenario s → RunWasStopped s all_lines (Replays s) (WorldStands v) old new → IsRunCut Replay s old new bank tally
-  cut_replay law losses lost fits stopped =
+  pub cut_replay : RunsAreFair → RunsNameCards → RunsTellLosses → LostAreTold → IsScenario s → RunWasStopped s all_lines (Replays s) (WorldStands v) old new → IsRunCut Replay s old new bank tally
+  cut_replay law names losses lost fits stopped =
       stopped_with s all_lines (Replays s) (ToldReplays s) (WorldStands v) (Leaves s bank tally) old new
-      (λ n cs ls w tail ends. (ends, losses s ends.0 n cs ls w fits ends.1, lost s ends.0 n cs ls w ends.1))
+      (λ n cs ls w tail bytes ends. (
+        ends,
+        losses s ends.0 n cs ls w fits ends.1,
+        lost s ends.0 n cs ls w ends.1,
+        told_lines ls bytes (names s ends.0 n cs ls w fits ends.1),
+      ))
       (λ n cs ls w tail ends stands. left w stands (law s ends.0 n cs ls w ends.1)) stopped
 
   pub whole_reading : (whole : ScenarioData) → s ≡ to_read whole → RunsAreFair → ReadingCapturesNothing → Completes (ReadRun whole) (WorldStands v) old new → IsRunWhole Read whole old new bank tally
@@ -93,7 +102,7 @@ module _ (s : ScenarioData) (v : WorldSeen) (told : v.scenario ≡ s) (old new :
   pub cut_reading : (whole : ScenarioData) → s ≡ to_read whole → RunsAreFair → RunWasStopped s shown_lines (ReadsLane s) (WorldStands v) old new → IsRunCut Read whole old new bank tally
   cut_reading whole same law stopped =
       subst (λ (t : ScenarioData). RunWasStopped t shown_lines (ReadsLane t) (Leaves t bank tally) old new) same
-      (stopped_with s shown_lines (ReadsLane s) (ReadsLane s) (WorldStands v) (Leaves s bank tally) old new (λ n cs ls w tail ends. ends)
+      (stopped_with s shown_lines (ReadsLane s) (ReadsLane s) (WorldStands v) (Leaves s bank tally) old new (λ n cs ls w tail bytes ends. ends)
       (λ n cs ls w tail ends stands. left w stands (read_fair law s n cs ls w ends.0)) stopped)
 
 -- the bytes are a scenario's

@@ -1,6 +1,9 @@
 -- A run that goes on, event by event, and one that stops.
-use Rattle.std.proofs.Common.{◌≡◌, ℕ, ◌+◌, Bool, List, [], ◌++◌, refl, sym, ap, ◌∙◌, subst, inl, inr, append_assoc}
+use Rattle.std.proofs.Common.{◌≡◌, ℕ, ◌+◌, Bool, List, [], ◌++◌, length, refl, sym, ap, ◌∙◌, subst, inl, inr, append_assoc}
 use Rattle.std.proofs.lemmas.List.{append-nil}
+use Rattle.std.specs.List.{All}
+use Rattle.std.proofs.lemmas.List.Elements.{All-append, All-nil, All-take}
+use Rattle.std.proofs.Math.Seq.{take-append_seam}
 use Rattle.std.specs.declared.option.Option.{Option}
 use Rattle.std.specs.Io.KnownBytes.{Appends}
 use Rattle.emv_ports.specs.Growth.{AppendsFront}
@@ -9,6 +12,7 @@ use Rattle.emv_top.specs.Answers.{Completes}
 use Rattle.emv_top.specs.RunsSoFar.{RunDefinition, Ends, IsRunSoFar, IsOneLess, RunWasStopped, Makes, IsThere, Breaks, MakesNone}
 use Rattle.emv_top.specs.Texts.{text_of_lines}
 use Rattle.emv_top.proofs.Writing.{text_of_lines-append}
+use Rattle.report_text.specs.Told.{HasLineBytes}
 use Rattle.report_text.specs.declared.line.Line.{Line}
 use Rattle.scenario.specs.Plan.{ScenarioData}
 use Rattle.txn_replay.specs.Steps.{Step}
@@ -25,6 +29,7 @@ begins course holds w held reached stands = record {
   world = w;
   reached = reached;
   stands = stands;
+  bytes = All-nil HasLineBytes;
   written = Appends-none held;
 }
 
@@ -39,10 +44,12 @@ passes here there holds first held on far = record {
   world = far.world;
   reached = on far.count far.choices far.lines far.world far.reached far.stands;
   stands = far.stands;
+  bytes = far.bytes;
   written = far.written;
 }
 
-module _ (s : ScenarioData) (e : Event) (shown : List Line → List Line) (v after : WorldSeen) (told : after.scenario ≡ s) where
+module _ (s : ScenarioData) (e : Event) (shown : List Line → List Line) (keeps_bytes : (lines : List Line) → All HasLineBytes lines → All HasLineBytes (shown lines))
+    (v after : WorldSeen) (told : after.scenario ≡ s) where
   step_of : (w : World) (lines : List Line) (goes : EventHasLed after w e lines) → Step s w e goes.choices lines goes.after
   step_of w lines goes = subst (λ (t : ScenarioData). Step t w e goes.choices lines goes.after) told goes.step
 
@@ -63,6 +70,7 @@ module _ (s : ScenarioData) (e : Event) (shown : List Line → List Line) (v aft
         reached = grows far.count far.choices made.goes.choices far.lines made.lines far.world made.goes.after far.reached far.stands
             (is_there far.world far.stands) (step_of far.world made.lines made.goes);
         stands = made.goes.stands;
+        bytes = All-append HasLineBytes far.lines (shown made.lines) far.bytes (keeps_bytes made.lines made.bytes);
         written = subst (λ (t : List ℕ). Appends first new t) (sym (text_of_lines-append far.lines (shown made.lines)))
             (Appends-more first old new (text_of_lines far.lines) (text_of_lines (shown made.lines)) far.written made.written);
       }
@@ -90,6 +98,7 @@ module _ (s : ScenarioData) (e : Event) (shown : List Line → List Line) (v aft
           world = made.goes.after;
           reached = next.1;
           stands = made.goes.stands;
+          bytes = All-append HasLineBytes far.lines (shown made.lines) far.bytes (keeps_bytes made.lines made.bytes);
           one_less = inr (record {
             number = far.count;
             earlier = far.choices;
@@ -121,6 +130,7 @@ module _ (s : ScenarioData) (e : Event) (shown : List Line → List Line) (v aft
       world = far.world;
       reached = subst (λ (ls : List Line). ends far.count far.choices ls far.world now.0) (sym (append-nil far.lines)) now.1;
       stands = kept.0;
+      bytes = subst (λ (ls : List Line). All HasLineBytes ls) (sym (append-nil far.lines)) far.bytes;
       one_less = inl refl;
       front = [];
       rest = text_of_lines now.0;
@@ -140,12 +150,12 @@ module _ (s : ScenarioData) (e : Event) (shown : List Line → List Line) (v aft
 -- the lines behind the events
 module _ (here : RunDefinition) (tail : World → List Line) (holds : World → Type 0) (first old new : Option (List ℕ)) (far : IsRunSoFar here holds first old) where
   pub completes : (runs : List Line → World → Type 0)
-      → ((n : ℕ) (cs : List Bool) (ls : List Line) (w : World) → here n cs ls w → holds w → runs (ls ++ tail w) w)
+      → ((n : ℕ) (cs : List Bool) (ls : List Line) (w : World) → here n cs ls w → holds w → All HasLineBytes ls → runs (ls ++ tail w) w)
       → ((w : World) → holds w → Appends old new (text_of_lines (tail w))) → Completes runs holds first new
   completes runs whole behind = record {
     lines = far.lines ++ tail far.world;
     world = far.world;
-    run = whole far.count far.choices far.lines far.world far.reached far.stands;
+    run = whole far.count far.choices far.lines far.world far.reached far.stands far.bytes;
     stands = far.stands;
     written = subst (λ (t : List ℕ). Appends first new t) (sym (text_of_lines-append far.lines (tail far.world)))
         (Appends-more first old new (text_of_lines far.lines) (text_of_lines (tail far.world)) far.written (behind far.world far.stands));
@@ -166,6 +176,7 @@ module _ (here : RunDefinition) (tail : World → List Line) (holds : World → 
         reached = subst (λ (ls : List Line). ends far.count far.choices ls far.world (tail far.world)) (sym (append-nil far.lines))
             (all far.count far.choices far.lines far.world far.reached far.stands);
         stands = far.stands;
+        bytes = subst (λ (ls : List Line). All HasLineBytes ls) (sym (append-nil far.lines)) far.bytes;
         one_less = inl refl;
         front = front.so_far.done;
         rest = front.rest;
@@ -173,16 +184,20 @@ module _ (here : RunDefinition) (tail : World → List Line) (holds : World → 
         written = Appends-more first old new (text_of_lines far.lines) front.so_far.done far.written front.so_far.written;
       }
 
+-- of earlier lines
+first_bytes : (xs ys : List Line) → All HasLineBytes (xs ++ ys) → All HasLineBytes xs
+first_bytes xs ys all = subst (λ (zs : List Line). All HasLineBytes zs) (take-append_seam xs ys) (All-take HasLineBytes (length xs) (xs ++ ys) all)
+
 -- the run without its last event, told in other words
 one_less_with : (s : ScenarioData) (shown : List Line → List Line) (ends others : Ends) (count : ℕ) (choices : List Bool) (before last : List Line) (w : World)
-    → ((n : ℕ) (cs : List Bool) (ls : List Line) (v : World) (tail : List Line) → ends n cs ls v tail → others n cs ls v tail)
-    → IsOneLess s shown ends count choices before last w → IsOneLess s shown others count choices before last w
-one_less_with s shown ends others count choices before last w tells one = record {
+    → ((n : ℕ) (cs : List Bool) (ls : List Line) (v : World) (tail : List Line) → All HasLineBytes ls → ends n cs ls v tail → others n cs ls v tail)
+    → All HasLineBytes before → IsOneLess s shown ends count choices before last w → IsOneLess s shown others count choices before last w
+one_less_with s shown ends others count choices before last w tells bytes one = record {
   number = one.number;
   earlier = one.earlier;
   world = one.world;
   tail = one.tail;
-  reached = tells one.number one.earlier before one.world one.tail one.reached;
+  reached = tells one.number one.earlier before one.world one.tail bytes one.reached;
   event = one.event;
   taken = one.taken;
   made = one.made;
@@ -194,7 +209,7 @@ one_less_with s shown ends others count choices before last w tells one = record
 
 -- what holds of the world, and how it was reached, in other words
 pub stopped_with : (s : ScenarioData) (shown : List Line → List Line) (ends others : Ends) (P Q : World → Type 0) (first held : Option (List ℕ))
-    → ((n : ℕ) (cs : List Bool) (ls : List Line) (w : World) (tail : List Line) → ends n cs ls w tail → others n cs ls w tail)
+    → ((n : ℕ) (cs : List Bool) (ls : List Line) (w : World) (tail : List Line) → All HasLineBytes ls → ends n cs ls w tail → others n cs ls w tail)
     → ((n : ℕ) (cs : List Bool) (ls : List Line) (w : World) (tail : List Line) → ends n cs ls w tail → P w → Q w)
     → RunWasStopped s shown ends P first held → RunWasStopped s shown others Q first held
 stopped_with s shown ends others P Q first held tells gives stopped = record {
@@ -204,12 +219,14 @@ stopped_with s shown ends others P Q first held tells gives stopped = record {
   last = stopped.last;
   tail = stopped.tail;
   world = stopped.world;
-  reached = tells stopped.count stopped.choices (stopped.before ++ stopped.last) stopped.world stopped.tail stopped.reached;
+  reached = tells stopped.count stopped.choices (stopped.before ++ stopped.last) stopped.world stopped.tail stopped.bytes stopped.reached;
   stands = gives stopped.count stopped.choices (stopped.before ++ stopped.last) stopped.world stopped.tail stopped.reached stopped.stands;
+  bytes = stopped.bytes;
   one_less = elim stopped.one_less [
     | inl none ↦ inl none
     | inr one ↦
-        inr (one_less_with s shown ends others stopped.count stopped.choices stopped.before stopped.last stopped.world tells one)
+        inr (one_less_with s shown ends others stopped.count stopped.choices stopped.before stopped.last stopped.world tells
+        (first_bytes stopped.before stopped.last stopped.bytes) one)
   ];
   front = stopped.front;
   rest = stopped.rest;

@@ -1,5 +1,6 @@
 pub mod WordLemmas
 pub mod Writing
+pub mod LineBytes
 pub mod Going
 pub mod ReadRuns
 pub mod Pasts

@@ -1,7 +1,9 @@
 -- The turns of a reading, one by one.
-use Rattle.std.proofs.Common.{◌≡◌, ℕ, ◌<◌, ◌≤◌, Bool, true, false, List, [], ◌++◌, length, Option, refl, sym, ◌∙◌, subst}
+use Rattle.std.proofs.Common.{◌≡◌, ℕ, ◌<◌, ◌≤◌, Bool, true, false, List, [], ◌∷◌, ◌++◌, length, Option, refl, sym, ◌∙◌, subst}
 use Rattle.std.specs.Prelude.{IfSome, if◌then◌else◌}
 use Rattle.std.specs.Io.KnownBytes.{Appends}
+use Rattle.std.specs.List.{All}
+use Rattle.std.proofs.lemmas.List.Elements.{All-append, All-cons, All-head, All-nil, All-tail}
 use Rattle.emv_ports.specs.Growth.{AppendsFront}
 use Rattle.emv_top.specs.Answers.{Completes}
 use Rattle.emv_top.specs.RunsSoFar.{IsRunSoFar, RunWasStopped, Makes, MakesNone, ReadsLane, read_tail, shown_lines}
@@ -12,12 +14,27 @@ use Rattle.emv_top.proofs.Going.{more, halts, completes, stops_behind}
 use Rattle.emv_top.proofs.ReadRuns.{others_rest, goes_on}
 use Rattle.emv_top.proofs.ReadShort.{read_short}
 use Rattle.emv_top.proofs.Untorn.{none_ended_yet}
+use Rattle.report_text.specs.Told.{HasLineBytes}
+use Rattle.report_text.specs.declared.line.Line.{Line}
+use Rattle.report_text.specs.declared.line.Line.TheVariants.{End, EndLost}
 use Rattle.scenario.specs.Plan.{ScenarioData, IsScenario}
-use Rattle.txn_replay.specs.Reading.{ReadReached, turned, ReadRun, is_read, data_at, ending_at, read_lines, to_read}
+use Rattle.txn_replay.specs.Reading.{ReadReached, turned, ReadRun, is_read, data_at, ending_at, read_lines, without_end, to_read}
 use Rattle.txn_replay.specs.Sound.{IsWorldSound, IsIdle}
 use Rattle.txn_replay.specs.World.{World, lane_at}
 use Rattle.txn_replay.specs.declared.event.Event.TheVariants.{Turn}
 use Rattle.txn_replay.specs.Seen.{WorldSeen, WorldStands, turns_left}
+
+-- the lines that a reading shows are some of those that were made
+kept_bytes : (line : Line) → HasLineBytes line → All HasLineBytes (without_end line)
+kept_bytes (End lane number parts) is = All-nil HasLineBytes
+kept_bytes (EndLost lane number) is = All-nil HasLineBytes
+kept_bytes other is = All-cons HasLineBytes other [] is (All-nil HasLineBytes)
+
+shown_bytes : (lines : List Line) → All HasLineBytes lines → All HasLineBytes (shown_lines lines)
+shown_bytes [] bytes = All-nil HasLineBytes
+shown_bytes (line ∷ lines) bytes =
+    All-append HasLineBytes (without_end line) (shown_lines lines) (kept_bytes line (All-head HasLineBytes line lines bytes))
+    (shown_bytes lines (All-tail HasLineBytes line lines bytes))
 
 abbrev pub ReadFar : ScenarioData → WorldSeen → Option (List ℕ) → Option (List ℕ) → Type 0
 ReadFar s v first held = IsRunSoFar (ReadReached s) (WorldStands v) first held
@@ -29,12 +46,12 @@ module _ (s : ScenarioData) (v after : WorldSeen) (told : v.scenario ≡ s) (sam
 
   pub read_more : ((w : World) → WorldStands v w → Makes after w (Turn 0) shown_lines old new) → ReadFar s after first new
   read_more makes =
-      more s (Turn 0) shown_lines v after (same ∙ told) (ReadReached s) (ReadReached s) first old new
+      more s (Turn 0) shown_lines shown_bytes v after (same ∙ told) (ReadReached s) (ReadReached s) first old new
       (λ n cs c ls made w next reached stands there step. turned reached (still_unread w stands) step) (λ w stands. tt) (λ n cs ls w reached. makes w) far
 
   pub read_cut : ((w : World) → WorldStands v w → MakesNone v.scenario after w (Turn 0) shown_lines old new) → RunWasStopped s shown_lines (ReadsLane s) (WorldStands after) first new
   read_cut fails =
-      halts s (Turn 0) shown_lines v after (same ∙ told) (ReadReached s) (ReadsLane s) first old new (λ n cs ls w reached. (read_tail s w, (reached, refl)))
+      halts s (Turn 0) shown_lines shown_bytes v after (same ∙ told) (ReadReached s) (ReadsLane s) first old new (λ n cs ls w reached. (read_tail s w, (reached, refl)))
       (λ n cs c ls made w next reached stands there step. (read_tail s next, (turned reached (still_unread w stands) step, refl))) far
       (λ n cs ls w reached. subst (λ (t : ScenarioData). (w : World) → WorldStands v w → MakesNone t after w (Turn 0) shown_lines old new) told fails w)
 
@@ -76,7 +93,7 @@ module _ (s : ScenarioData) (v : WorldSeen) (told : v.scenario ≡ s) (first old
         → Completes (ReadRun whole) (WorldStands v) first new
     read_whole whole same behind =
         completes (ReadReached s) (λ w. read_lines (data_at s w 0) (ending_at w 0)) (WorldStands v) first old new far (ReadRun whole)
-        (λ n cs ls w reached stands. record {
+        (λ n cs ls w reached stands bytes. record {
           count = n;
           choices = cs;
           reported = ls;

@@ -35,7 +35,7 @@ module _ (s : ScenarioData) (e : Event) (v after : WorldSeen) (told : v.scenario
       → ((n : ℕ) (cs : List Bool) (ls : List Line) (w : World) → Reached s here n cs ls w → WorldStands v w → Makes after w e all_lines old new)
       → IsRunSoFar (Reached s here) (WorldStands v) first old → IsRunSoFar (Reached s there) (WorldStands after) first new
   onward_from is_there makes far =
-      more s e all_lines v after (same ∙ told) (Reached s here) (Reached s there) first old new grows
+      more s e all_lines (λ lines bytes. bytes) v after (same ∙ told) (Reached s here) (Reached s there) first old new grows
       (subst (λ (t : ScenarioData). (w : World) → WorldStands v w → IsThere t w e) told is_there) makes far
 
   pub onward : ((w : World) → WorldStands v w → IsThere v.scenario w e) → ((w : World) → WorldStands v w → Makes after w e all_lines old new)
@@ -46,7 +46,7 @@ module _ (s : ScenarioData) (e : Event) (v after : WorldSeen) (told : v.scenario
       → ((n : ℕ) (cs : List Bool) (ls : List Line) (w : World) → Reached s here n cs ls w → WorldStands v w → MakesNone v.scenario after w e all_lines old new)
       → IsRunSoFar (Reached s here) (WorldStands v) first old → RunWasStopped s all_lines (Replays s) (WorldStands after) first new
   cut_off_from none_here none_there fails far =
-      halts s e all_lines v after (same ∙ told) (Reached s here) (Replays s) first old new
+      halts s e all_lines (λ lines bytes. bytes) v after (same ∙ told) (Reached s here) (Replays s) first old new
       (λ n cs ls w reached. ([], (here, reached, sym (none_here w))))
       (λ n cs c ls made w next reached stands is_there step. ([], (there, grows n cs c ls made w next reached stands is_there step, sym (none_there next)))) far
       (subst (λ (t : ScenarioData). (n : ℕ) (cs : List Bool) (ls : List Line) (w : World) → Reached s here n cs ls w → WorldStands v w

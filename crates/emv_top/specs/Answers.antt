@@ -15,6 +15,7 @@ use Rattle.emv_top.specs.declared.status.Status.TheVariants.{Done, Refused, Usag
 use Rattle.emv_top.specs.declared.words.Task.{Task}
 use Rattle.emv_top.specs.declared.words.Task.TheVariants.{Read, Replay}
 use Rattle.kernel.specs.Tally.{Counts}
+use Rattle.report_text.specs.Told.{IsTold}
 use Rattle.report_text.specs.declared.line.Line.{Line}
 use Rattle.scenario.specs.Cards.{CardData}
 use Rattle.scenario.specs.Plan.{ScenarioData}
@@ -60,9 +61,10 @@ pub record Completes (runs : List Line → World → Type 0) (holds : World → 
   pub stands : holds world
   pub written : Appends old new (text_of_lines lines)
 
--- a run that was cut: its lines tell how often each card lost its power, and each terminal a purchase
+-- a run that was cut: its lines tell how often each card lost its power, and each terminal a purchase, and their texts tell
+-- them
 abbrev pub ToldReplays : ScenarioData → Ends
-ToldReplays s n choices lines w tail = Replays s n choices lines w tail × HasLosses s lines w × AreLostAsTold lines w
+ToldReplays s n choices lines w tail = Replays s n choices lines w tail × HasLosses s lines w × AreLostAsTold lines w × All IsTold lines
 
 -- a card was read: no card lost its power, and no line tells that one did; no terminal lost a purchase, and each store is empty
 pub record CalmReading (s : ScenarioData) (lines : List Line) (w : World) : Type 0 where

@@ -1,10 +1,12 @@
 -- The purchases of a run that come to a decision: those that began with a well-formed card with applications and have no
 -- tear, neither of the card nor of the terminal; and what else is known of a whole run.
 use Rattle.std.specs.Prelude.{◌≡◌, ℕ, Bool, true, List, slice_get, Option, Some, None}
+use Rattle.std.specs.List.{All}
 use Rattle.card_state.specs.Decisions.{Decided}
 use Rattle.dialogue_laws.specs.UncutPurchase.{IsDecided}
 use Rattle.dialogue_laws.specs.WellFormed.{WellFormed}
 use Rattle.kernel.specs.Ended.{EndData}
+use Rattle.report_text.specs.Told.{IsTold}
 use Rattle.report_text.specs.declared.line.Line.{Line}
 use Rattle.scenario.specs.Plan.{ScenarioData, IsScenario}
 use Rattle.txn_replay.specs.Captured.{AreSent, AreLostAsTold}
@@ -44,12 +46,13 @@ pub record RunInDialects (s : ScenarioData) (iso : ℕ → Bool) (lines : List L
   pub run : Run (in_dialects iso s) others w
   pub respelled : AreRespelled (dialect_of s) (dialect_of (in_dialects iso s)) lines others
 
--- a whole run: its purchases are decided, its lines tell how often each card lost its power and each terminal a purchase, in
--- other dialects of its lanes it differs in the spelling of messages and replies alone, each store has sent its captures and
+-- a whole run: its purchases are decided, the texts of its lines tell them, its lines tell how often each card lost its power
+-- and each terminal a purchase, in other dialects of its lanes it differs in the spelling of messages and replies alone, each store has sent its captures and
 -- is empty, and a lane that shares no card and no account with others ran as if it were alone
 pub record DecidedRun (s : ScenarioData) (lines : List Line) (w : World) : Type 0 where
   pub run : Run s lines w
   pub decided : AreDecided s w
+  pub told : All IsTold lines
   pub losses : HasLosses s lines w
   pub lost : AreLostAsTold lines w
   pub dialects : (iso : ℕ → Bool) → RunInDialects s iso lines w

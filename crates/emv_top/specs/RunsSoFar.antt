@@ -1,16 +1,17 @@
 -- A run in its course: what a world stands for, and what the sink got of it so far.
 use Rattle.std.specs.Prelude.{◌≡◌, ◌⊎◌, ⊤, ℕ, ◌+◌, Bool, List, [], ◌++◌, slice_get, Some, Result, OnOk, OnErr, if◌then◌else◌}
-use Rattle.std.specs.List.{flat_map}
+use Rattle.std.specs.List.{All, flat_map}
 use Rattle.std.specs.declared.option.Option.{Option}
 use Rattle.std.specs.Io.KnownBytes.{Appends}
 use Rattle.emv_ports.specs.Growth.{AppendsFront}
 use Rattle.emv_top.specs.Stops.{HasStop}
 use Rattle.emv_top.specs.Texts.{text_of_lines}
 use Rattle.emv_top.specs.declared.stop.Stop.{Stop}
+use Rattle.report_text.specs.Told.{HasLineBytes}
 use Rattle.report_text.specs.declared.line.Line.{Line}
 use Rattle.scenario.specs.Plan.{ScenarioData, IsScenario}
 use Rattle.txn_replay.specs.Reading.{ReadReached, is_read, data_at, ending_at, read_lines, without_end}
-use Rattle.txn_replay.specs.Run.{RunPlace, Scheduled, Round, Settling, Auditing, Finished, Reached, closing}
+use Rattle.txn_replay.specs.Run.{RunPlace, Scheduled, Round, Settling, Auditing, Finished, Reached, Run, closing}
 use Rattle.txn_replay.specs.Steps.{Settlement, Check, settlements, checks, Step}
 use Rattle.txn_replay.specs.World.{World}
 use Rattle.txn_replay.specs.declared.event.Event.{Event}
@@ -36,6 +37,10 @@ tail_at s Finished w = closing s w
 abbrev pub Replays : ScenarioData → Ends
 Replays s n choices lines w tail = (place : RunPlace) × Reached s place n choices lines w × (tail ≡ tail_at s place w)
 
+-- a whole run whose lines have bytes that are bytes
+abbrev pub RunOfBytes : ScenarioData → List Line → World → Type 0
+RunOfBytes s lines w = Run s lines w × All HasLineBytes lines
+
 -- the lines behind a reading's events
 abbrev pub read_tail : ScenarioData → World → List Line
 read_tail s w = (if is_read s w then read_lines (data_at s w 0) (ending_at w 0) else [])
@@ -50,7 +55,7 @@ all_lines lines = lines
 abbrev pub shown_lines : List Line → List Line
 shown_lines lines = flat_map without_end lines
 
--- some events were made, and their lines were appended to what the sink held first
+-- some events were made, and their lines, with bytes that are bytes, were appended to what the sink held first
 pub record IsRunSoFar (course : RunDefinition) (holds : World → Type 0) (first held : Option (List ℕ)) : Type 0 where
   pub count : ℕ
   pub choices : List Bool
@@ -58,6 +63,7 @@ pub record IsRunSoFar (course : RunDefinition) (holds : World → Type 0) (first
   pub world : World
   pub reached : course count choices lines world
   pub stands : holds world
+  pub bytes : All HasLineBytes lines
   pub written : Appends first held (text_of_lines lines)
 
 -- the run without its last event, which leads from there to its world: these lines are those of the earlier events, and of
@@ -89,6 +95,7 @@ pub record RunWasStopped (s : ScenarioData) (shown : List Line → List Line) (e
   pub world : World
   pub reached : ends count choices (before ++ last) world tail
   pub stands : holds world
+  pub bytes : All HasLineBytes (before ++ last)
   pub one_less : (last ≡ []) ⊎ IsOneLess s shown ends count choices before last world
   pub front : List ℕ
   pub rest : List ℕ
@@ -122,10 +129,11 @@ pub record Passage {T : Type 0} (s : ScenarioData) (v after : WorldSeen) (old ne
 abbrev pub RunHasReached : WorldSeen → Option (List ℕ) → RunDefinition → Type 0
 RunHasReached v held here = (first : Option (List ℕ)) × IsRunSoFar here (WorldStands v) first held
 
--- an event was made, and what is shown of its lines was appended
+-- an event was made, and what is shown of its lines, with bytes that are bytes, was appended
 pub record Makes (v : WorldSeen) (w : World) (e : Event) (shown : List Line → List Line) (old new : Option (List ℕ)) : Type 0 where
   pub lines : List Line
   pub goes : EventHasLed v w e lines
+  pub bytes : All HasLineBytes lines
   pub written : Appends old new (text_of_lines (shown lines))
 
 -- there is such an event: a message of the settlement, a step of the audit; a lane's exchange may be none
@@ -138,6 +146,7 @@ IsThere s w (Audit k) = (check : Check) × (slice_get (checks s) k ≡ Some chec
 pub record Breaks (s : ScenarioData) (v : WorldSeen) (w : World) (e : Event) (shown : List Line → List Line) (old new : Option (List ℕ)) : Type 0 where
   pub lines : List Line
   pub goes : EventHasLed v w e lines
+  pub bytes : All HasLineBytes lines
   pub there : IsThere s w e
   pub front : AppendsFront old new (text_of_lines (shown lines))
 

@@ -30,10 +30,13 @@ pub fn turn<P: Pages, K: Sink>(
 {
     room.lines.clear();
     match world.turn(lane, &mut room.lines) {
-        Ok(went) => match write_lines(&room.lines, &mut room.text, sink) {
-            Ok(()) => Ok(went),
-            Err(stop) => Err(stop),
-        },
+        Ok(went) => {
+            room.lines.fit();
+            match write_lines(&room.lines, &mut room.text, sink) {
+                Ok(()) => Ok(went),
+                Err(stop) => Err(stop),
+            }
+        }
         Err(AllocError) => Err(Stop::OutOfMemory),
     }
 }
@@ -52,10 +55,13 @@ pub fn read_turn<P: Pages, K: Sink>(
 {
     room.lines.clear();
     match world.turn(0, &mut room.lines) {
-        Ok(went) => match write_shown(&room.lines, &mut room.text, sink) {
-            Ok(()) => Ok(went),
-            Err(stop) => Err(stop),
-        },
+        Ok(went) => {
+            room.lines.fit();
+            match write_shown(&room.lines, &mut room.text, sink) {
+                Ok(()) => Ok(went),
+                Err(stop) => Err(stop),
+            }
+        }
         Err(AllocError) => Err(Stop::OutOfMemory),
     }
 }
@@ -79,10 +85,13 @@ pub fn settle<P: Pages, K: Sink>(
 {
     room.lines.clear();
     match world.settle(number, &mut room.lines) {
-        Ok(true) => match write_lines(&room.lines, &mut room.text, sink) {
-            Ok(()) => Ok(true),
-            Err(stop) => Err(stop),
-        },
+        Ok(true) => {
+            room.lines.fit();
+            match write_lines(&room.lines, &mut room.text, sink) {
+                Ok(()) => Ok(true),
+                Err(stop) => Err(stop),
+            }
+        }
         Ok(false) => Ok(false),
         Err(AllocError) => Err(Stop::OutOfMemory),
     }
@@ -110,6 +119,7 @@ pub fn audit<P: Pages, K: Sink>(
     if !world.audit(number, &mut room.lines) {
         return Ok(false);
     }
+    room.lines.fit();
     match write_lines(&room.lines, &mut room.text, sink) {
         Ok(()) => Ok(true),
         Err(stop) => Err(stop),

@@ -2,14 +2,14 @@
 ghost use Rattle.std.specs.Prelude.{◌≡◌, ◌≢◌, ◌<◌, true, false, IfOk, IfErr, OnOk, OnErr};
 ghost use Rattle.emv_top.specs.Answers.{AreSettled, Completes, Plays};
 ghost use Rattle.emv_top.specs.Decided.{DecidedRun};
-ghost use Rattle.emv_top.specs.RunsSoFar.{RunHasReached, IsPlayed, Passage, Replays, RunWasStopped, all_lines};
+ghost use Rattle.emv_top.specs.RunsSoFar.{RunHasReached, IsPlayed, Passage, Replays, RunOfBytes, RunWasStopped, all_lines};
 ghost use Rattle.emv_top.specs.StatusCode.{SinkCount};
 ghost use Rattle.emv_top.specs.Stops.{HasStop};
 ghost use Rattle.emv_top.specs.declared.status.Status.{Status};
 ghost use Rattle.emv_top.specs.declared.words.Task.{Task};
 ghost use Rattle.scenario.specs.Plan.{IsScenario};
 ghost use Rattle.txn_replay.specs.Laws.{IsFair};
-ghost use Rattle.txn_replay.specs.Run.{Reached, Scheduled, Round, Settling, Auditing, Finished, Run, all_over};
+ghost use Rattle.txn_replay.specs.Run.{Reached, Scheduled, Round, Settling, Auditing, Finished, all_over};
 ghost use Rattle.txn_replay.specs.World.{World as Told, first_world};
 ghost use Rattle.txn_replay.specs.Seen.{WorldStands, is_done, turns_left};
 
@@ -25,8 +25,8 @@ use emv_ports::{Pages, Sink};
 use scenario::Scenario;
 use std::alloc::Global;
 use txn_replay::{
-    NoWorld, World, captures_are_sent, dialects_show, lanes_stand_alone, losses_are_told,
-    runs_are_fair, stores_are_emptied,
+    NoWorld, World, captures_are_sent, cards_are_named, dialects_show, lanes_stand_alone,
+    losses_are_told, runs_are_fair, stores_are_emptied,
 };
 
 /// The turns of the schedule.
@@ -162,7 +162,7 @@ pub fn replay_through<P: Pages, K: Sink>(
 ) -> Result<(), Stop>
     requires played { IsPlayed scenario.now world.old }
     requires start { WorldStands world.old (first_world scenario.now) }
-    ensures ok { OnOk result (Completes (Run scenario.now) (WorldStands world.new) (K.held sink.old) (K.held sink.new)) }
+    ensures ok { OnOk result (Completes (RunOfBytes scenario.now) (WorldStands world.new) (K.held sink.old) (K.held sink.new)) }
     ensures err { OnErr result (RunWasStopped scenario.now all_lines (Replays scenario.now) (WorldStands world.new) (K.held sink.old) (K.held sink.new)) }
     ensures told { world.new.scenario ≡ scenario.now }
     ensures stop { HasStop (K.faults sink.old) (K.faults sink.new) result }
@@ -192,6 +192,7 @@ pub fn replay_whole<'s, P: Pages, K: Sink>(
 {
     runs_are_fair();
     runs_are_decided();
+    cards_are_named();
     losses_are_told();
     dialects_show();
     captures_are_sent();
@@ -201,7 +202,10 @@ pub fn replay_whole<'s, P: Pages, K: Sink>(
         Ok(world) => {
             let mut world = world;
             match replay_through(scenario, &mut world, sink) {
-                Ok(()) => Ok(world),
+                Ok(()) => {
+                    world.made_messages();
+                    Ok(world)
+                }
                 Err(Stop::Sink) => Err(end_world(Status::WriteFault, world)),
                 Err(Stop::OutOfMemory) => Err(end_world(Status::OutOfMemory, world)),
             }

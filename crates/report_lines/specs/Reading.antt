@@ -32,6 +32,7 @@ pub record EndLineFields : Type 0 where
   pub arc : List ℕ
   pub scripts : List ℕ
 
+-- the fields of an end line, as contracts see them
 abbrev pub seen_fields : EndFields → EndLineFields
 seen_fields f = record { tvr = f.tvr.now; tsi = f.tsi.now; cvm = f.cvm.now; arc = f.arc.now; scripts = f.scripts.now }
 

@@ -2,3 +2,4 @@ pub mod Pieces
 pub mod Words
 pub mod Text
 pub mod Packed
+pub mod Told

@@ -5,6 +5,7 @@ mod head;
 pub mod line;
 pub mod packed;
 pub mod pieces;
+mod told;
 pub mod words;
 pub mod write;
 

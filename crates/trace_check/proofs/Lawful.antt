@@ -59,7 +59,7 @@ over_ended outset steps_done (said.Over last) ending is = refl
 
 module _ (outset : Outset) where
   -- the trace of a dialogue is found the same
-  pub dialogue_same : (before : List Reply) (entries : List Entry) (at : ℕ) → IsDialogue outset before entries → left outset before at entries ≡ Same
+  pub dialogue_same : (before : List Reply) (entries : List Entry) (at : ℕ) → IsDialogue [] outset before entries → left outset before at entries ≡ Same
   dialogue_same before entries at (over front ending is) =
       last_same outset front at (entry_of_standing outset (dialogue outset front)) (same_self (entry_of_standing outset (dialogue outset front)))
       ∙ rw (over_ended outset (dialogue outset front).steps_done (dialogue outset front).deed ending is) refl
@@ -68,55 +68,55 @@ module _ (outset : Outset) where
       ∙ dialogue_same (front ++ reply ∷ []) later (at + 2) rest
 
   -- what an entry that is the dialogue's next, and its last, makes
-  ends_by : (before : List Reply) (entry : Entry) → entry ≡ entry_of_standing outset (dialogue outset before) → is_end_entry entry ≡ true → IsDialogue outset before (entry ∷ [])
+  ends_by : (before : List Reply) (entry : Entry) → entry ≡ entry_of_standing outset (dialogue outset before) → is_end_entry entry ≡ true → IsDialogue [] outset before (entry ∷ [])
   ends_by before entry is end =
       let found = end_is_over outset (dialogue outset before).steps_done (dialogue outset before).deed (ap is_end_entry (sym is) ∙ end) in
-      subst (λ (e : Entry). IsDialogue outset before (e ∷ [])) (sym is) (over before found.0 found.1)
+      subst (λ (e : Entry). IsDialogue [] outset before (e ∷ [])) (sym is) (over before found.0 found.1)
 
   goes_by : (before : List Reply) (ask entry : Entry) (reply : Reply) (later : List Entry) → ask ≡ entry_of_standing outset (dialogue outset before) → reply_of_entry entry ≡ Some reply
-      → is_awaited (dialogue outset before).deed reply ≡ true → IsDialogue outset (before ++ reply ∷ []) later → IsDialogue outset before (ask ∷ entry ∷ later)
+      → is_awaited (dialogue outset before).deed reply ≡ true → IsDialogue [] outset (before ++ reply ∷ []) later → IsDialogue [] outset before (ask ∷ entry ∷ later)
   goes_by before ask entry reply later is told awaited rest =
-      subst (λ (e : Entry). IsDialogue outset before (e ∷ entry ∷ later)) (sym is) (answered before entry reply later told awaited rest)
+      subst (λ (e : Entry). IsDialogue [] outset before (e ∷ entry ∷ later)) (sym is) (answered before entry reply later told awaited rest)
 
   -- what is asked, and what stands behind it
   same_by : (before : List Reply) (ask entry : Entry) (entries : List Entry) (at : ℕ) → left outset before at (ask ∷ entry ∷ entries) ≡ Same
       → same_entry ask (entry_of_standing outset (dialogue outset before)) ≡ true
-      → ((reply : Reply) → left outset (before ++ reply ∷ []) (at + 2) entries ≡ Same → IsDialogue outset (before ++ reply ∷ []) entries)
-      → (told : Option Reply) → reply_of_entry entry ≡ told → IsDialogue outset before (ask ∷ entry ∷ entries)
+      → ((reply : Reply) → left outset (before ++ reply ∷ []) (at + 2) entries ≡ Same → IsDialogue [] outset (before ++ reply ∷ []) entries)
+      → (told : Option Reply) → reply_of_entry entry ≡ told → IsDialogue [] outset before (ask ∷ entry ∷ entries)
   same_by before ask entry entries at same like more None none =
       absurd (let e : Differs (at + 1) ≡ Same = sym (unanswered outset before at ask entry entries like none) ∙ same in cc e)
   same_by before ask entry entries at same like more (Some reply) told = by (is_awaited (dialogue outset before).deed reply) refl
     where
-      by : (awaited : Bool) → is_awaited (dialogue outset before).deed reply ≡ awaited → IsDialogue outset before (ask ∷ entry ∷ entries)
+      by : (awaited : Bool) → is_awaited (dialogue outset before).deed reply ≡ awaited → IsDialogue [] outset before (ask ∷ entry ∷ entries)
       by true awaited =
           goes_by before ask entry reply entries (same_is _ _ like) told awaited
           (more reply (sym (goes_on outset before at ask entry entries like reply told awaited) ∙ same))
       by false other =
           absurd (let e : Differs (at + 1) ≡ Same = sym (not_awaited outset before at ask entry entries like reply told other) ∙ same in cc e)
 
-  pub same_dialogue : (before : List Reply) (entries : List Entry) (at : ℕ) → left outset before at entries ≡ Same → IsDialogue outset before entries
+  pub same_dialogue : (before : List Reply) (entries : List Entry) (at : ℕ) → left outset before at entries ≡ Same → IsDialogue [] outset before entries
   same_dialogue before [] at same = absurd (let e : Differs at ≡ Same = sym (none_left outset before at) ∙ same in cc e)
   same_dialogue before (entry ∷ []) at same = by (same_entry entry (entry_of_standing outset (dialogue outset before))) refl
     where
       by_end : same_entry entry (entry_of_standing outset (dialogue outset before)) ≡ true → (end : Bool) → is_end_entry entry ≡ end → (if end then Same else Differs (at + 1)) ≡ Same
-          → IsDialogue outset before (entry ∷ [])
+          → IsDialogue [] outset before (entry ∷ [])
       by_end like true end is = ends_by before entry (same_is _ _ like) end
       by_end like false end is = absurd (cc is)
 
-      by : (like : Bool) → same_entry entry (entry_of_standing outset (dialogue outset before)) ≡ like → IsDialogue outset before (entry ∷ [])
+      by : (like : Bool) → same_entry entry (entry_of_standing outset (dialogue outset before)) ≡ like → IsDialogue [] outset before (entry ∷ [])
       by true like = by_end like (is_end_entry entry) refl (sym (last_same outset before at entry like) ∙ same)
       by false other = absurd (let e : Differs at ≡ Same = sym (other_first outset before at entry [] other) ∙ same in cc e)
   same_dialogue before (ask ∷ entry ∷ entries) at same =
       by (same_entry ask (entry_of_standing outset (dialogue outset before))) refl (λ reply is. same_dialogue (before ++ reply ∷ []) entries (at + 2) is)
     where
       by : (like : Bool) → same_entry ask (entry_of_standing outset (dialogue outset before)) ≡ like
-          → ((reply : Reply) → left outset (before ++ reply ∷ []) (at + 2) entries ≡ Same → IsDialogue outset (before ++ reply ∷ []) entries)
-          → IsDialogue outset before (ask ∷ entry ∷ entries)
+          → ((reply : Reply) → left outset (before ++ reply ∷ []) (at + 2) entries ≡ Same → IsDialogue [] outset (before ++ reply ∷ []) entries)
+          → IsDialogue [] outset before (ask ∷ entry ∷ entries)
       by true like more = same_by before ask entry entries at same like more (reply_of_entry entry) refl
       by false other more = absurd (let e : Differs at ≡ Same = sym (other_first outset before at ask (entry ∷ entries) other) ∙ same in cc e)
 
   -- what stands in the trace of a dialogue
-  dialogue_first : (before : List Reply) (first : Entry) (entries : List Entry) → IsDialogue outset before (first ∷ entries) → first ≡ entry_of_standing outset (dialogue outset before)
+  dialogue_first : (before : List Reply) (first : Entry) (entries : List Entry) → IsDialogue [] outset before (first ∷ entries) → first ≡ entry_of_standing outset (dialogue outset before)
   dialogue_first before first entries (over front ending is) = refl
   dialogue_first before first entries (answered front entry reply later told awaited rest) = refl
 
@@ -124,12 +124,12 @@ module _ (outset : Outset) where
     reply : Reply
     told : reply_of_entry entry ≡ Some reply
     awaited : is_awaited (dialogue outset before).deed reply ≡ true
-    rest : IsDialogue outset (before ++ reply ∷ []) later
+    rest : IsDialogue [] outset (before ++ reply ∷ []) later
 
-  dialogue_second : (before : List Reply) (first entry : Entry) (later : List Entry) → IsDialogue outset before (first ∷ entry ∷ later) → Second before entry later
+  dialogue_second : (before : List Reply) (first entry : Entry) (later : List Entry) → IsDialogue [] outset before (first ∷ entry ∷ later) → Second before entry later
   dialogue_second before first entry later (answered front told_entry reply behind told awaited rest) = record { reply = reply; told = told; awaited = awaited; rest = rest }
 
-  no_dialogue : (before : List Reply) → IsDialogue outset before [] → ⊥
+  no_dialogue : (before : List Reply) → IsDialogue [] outset before [] → ⊥
   no_dialogue before is = elim is [ ]
 
   abbrev pub heard_in : List Reply → Type 0
@@ -137,7 +137,7 @@ module _ (outset : Outset) where
 
   -- each dialogue can be brought to its end
   abbrev pub IsEnding : List Reply → Type 0
-  IsEnding before = (entries : List Entry) × IsDialogue outset before entries
+  IsEnding before = (entries : List Entry) × IsDialogue [] outset before entries
 
   ends_over : (before : List Reply) (ending : Ending) → (dialogue outset before).deed ≡ said.Over ending → IsEnding before
   ends_over before ending is = (entry_of_standing outset (dialogue outset before) ∷ [], over before ending is)
@@ -177,16 +177,16 @@ module _ (outset : Outset) where
       by (said.Over ending) is = ends_over before ending is
 
   abbrev pub FrontBehind : List Reply → List Entry → Type 0
-  FrontBehind before entries = (more : List Entry) × IsDialogue outset before (entries ++ more)
+  FrontBehind before entries = (more : List Entry) × IsDialogue [] outset before (entries ++ more)
 
   -- what a dialogue does next is a front of a trace behind these replies
   next_front : (before : List Reply) (entry : Entry) → heard_in before → entry ≡ entry_of_standing outset (dialogue outset before) → FrontBehind before (entry ∷ [])
   next_front before entry heard is = by (is_ending before heard).0 (is_ending before heard).1
     where
-      by : (entries : List Entry) → IsDialogue outset before entries → FrontBehind before (entry ∷ [])
+      by : (entries : List Entry) → IsDialogue [] outset before entries → FrontBehind before (entry ∷ [])
       by [] found = absurd (no_dialogue before found)
       by (first ∷ entries) found =
-          (entries, subst (λ (e : Entry). IsDialogue outset before (e ∷ entries)) (dialogue_first before first entries found ∙ sym is) found)
+          (entries, subst (λ (e : Entry). IsDialogue [] outset before (e ∷ entries)) (dialogue_first before first entries found ∙ sym is) found)
 
   pub record Least (before : List Reply) (entries : List Entry) (count : ℕ) : Type 0 where
     pub front : FrontBehind before (take count entries)
@@ -232,7 +232,7 @@ module _ (outset : Outset) where
               let second = dialogue_second before ask entry (take (suc later.0) entries ++ front.0) front.1 in
               let one : reply ≡ second.reply = (let e : Some reply ≡ Some second.reply = sym told ∙ second.told in cc e) in
               later.2.least (omega arith)
-              (front.0, subst (λ (r : Reply). IsDialogue outset (before ++ r ∷ []) (take (suc later.0) entries ++ front.0)) (sym one) second.rest);
+              (front.0, subst (λ (r : Reply). IsDialogue [] outset (before ++ r ∷ []) (take (suc later.0) entries ++ front.0)) (sym one) second.rest);
           within = let in_rest = later.2.within in omega arith;
         },
       )
@@ -292,7 +292,7 @@ module _ (outset : Outset) where
           at_first before (ask ∷ entry ∷ entries) at found heard (sym (other_first outset before at ask (entry ∷ entries) other) ∙ differs)
           (λ some. other_no_front before ask other)
 
-pub same_is_dialogue : (outset : Outset) (entries : List Entry) → (verdict outset entries ≡ Same) ↔ IsDialogue outset [] entries
+pub same_is_dialogue : (outset : Outset) (entries : List Entry) → (verdict outset entries ≡ Same) ↔ IsDialogue [] outset [] entries
 unfolding left
 same_is_dialogue outset entries = (same_dialogue outset [] entries 0, dialogue_same outset [] entries 0)
 

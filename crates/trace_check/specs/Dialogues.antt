@@ -1,6 +1,7 @@
 -- The trace that a terminal's dialogue has on the card's and the host's replies.
 use Rattle.std.specs.Prelude.{ℕ, Bool, true, false, List, [], ◌∷◌, ◌++◌, Option, Some, None, option_map, option_to_list, if◌then◌else◌}
 use Rattle.std.specs.List.{flat_map}
+use Rattle.emv_dict.specs.declared.purchase.Logged.{Logged}
 use Rattle.kernel.specs.StepsInTurn.{Standing}
 use Rattle.kernel.specs.Dialogue.{dialogue}
 use Rattle.kernel.specs.Ended.{EndData, end_with}
@@ -30,15 +31,19 @@ parts_of shown = record {
 abbrev pub end_text : EndShown → List ℕ
 end_text shown = parts_text (parts_of shown)
 
+-- the reply that an entry is to a terminal with this log of earlier purchases
+abbrev pub reply_with_log : List Logged → Entry → Option Reply
+reply_with_log log (ToCard command) = None
+reply_with_log log (CardSaid answer) = Some (said.CardSaid answer log)
+reply_with_log log CardGone = Some said.CardGone
+reply_with_log log (ToHost message) = None
+reply_with_log log (HostSaid reply) = Some (said.HostSaid reply)
+reply_with_log log HostSilent = Some said.HostSilent
+reply_with_log log (End text) = None
+
 -- a terminal's log of earlier purchases is empty to a trace
 abbrev pub reply_of_entry : Entry → Option Reply
-reply_of_entry (ToCard command) = None
-reply_of_entry (CardSaid answer) = Some (said.CardSaid answer [])
-reply_of_entry CardGone = Some said.CardGone
-reply_of_entry (ToHost message) = None
-reply_of_entry (HostSaid reply) = Some (said.HostSaid reply)
-reply_of_entry HostSilent = Some said.HostSilent
-reply_of_entry (End text) = None
+reply_of_entry entry = reply_with_log [] entry
 
 -- the replies of a trace, in their order
 abbrev pub replies_in : List Entry → List Reply

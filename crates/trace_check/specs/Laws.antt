@@ -1,10 +1,11 @@
 -- What a verdict says of a trace.
 use Rattle.std.specs.Prelude.{◌≡◌, ◌↔◌, ℕ, ◌+◌, ◌<◌, true, List, [], ◌∷◌, ◌++◌, length, take, Some}
+use Rattle.emv_dict.specs.declared.purchase.Logged.{Logged}
 use Rattle.kernel.specs.Dialogue.{dialogue}
 use Rattle.kernel.specs.Reply.{Reply, Deed}
 use Rattle.kernel.specs.Reply as said
 use Rattle.terminal_state.specs.Terminal.{Outset}
-use Rattle.trace_check.specs.Dialogues.{entry_of_standing, is_awaited, entry_of_reply, reply_of_entry}
+use Rattle.trace_check.specs.Dialogues.{entry_of_standing, is_awaited, entry_of_reply, reply_with_log}
 use Rattle.trace_check.specs.Texts.{entry_of_text, entry_text, IsEntry}
 use Rattle.trace_check.specs.Verdicts.{verdict}
 use Rattle.trace_check.specs.declared.compare.Verdict.{Verdict}
@@ -12,21 +13,22 @@ use Rattle.trace_check.specs.declared.compare.Verdict.TheVariants.{Same, Differs
 use Rattle.trace_check.specs.declared.entry.Entry.{Entry}
 use Rattle.emv_dict.specs.declared.ending.Ending.{Ending}
 
--- the entries are each ask followed by its reply, and at last the end, and nothing more
-pub data IsDialogue (outset : Outset) : List Reply → List Entry → Type 0 where
+-- the entries are each ask followed by its reply to a terminal with this log of earlier purchases, and at last the end, and
+-- nothing more
+pub data IsDialogue (log : List Logged) (outset : Outset) : List Reply → List Entry → Type 0 where
   over : (before : List Reply) (ending : Ending) → (dialogue outset before).deed ≡ said.Over ending
-      → IsDialogue outset before (entry_of_standing outset (dialogue outset before) ∷ [])
-  answered : (before : List Reply) (entry : Entry) (reply : Reply) (entries : List Entry) → reply_of_entry entry ≡ Some reply
-      → is_awaited (dialogue outset before).deed reply ≡ true → IsDialogue outset (before ++ reply ∷ []) entries
-      → IsDialogue outset before (entry_of_standing outset (dialogue outset before) ∷ entry ∷ entries)
+      → IsDialogue log outset before (entry_of_standing outset (dialogue outset before) ∷ [])
+  answered : (before : List Reply) (entry : Entry) (reply : Reply) (entries : List Entry) → reply_with_log log entry ≡ Some reply
+      → is_awaited (dialogue outset before).deed reply ≡ true → IsDialogue log outset (before ++ reply ∷ []) entries
+      → IsDialogue log outset before (entry_of_standing outset (dialogue outset before) ∷ entry ∷ entries)
 
--- a trace is the same exactly where it is the dialogue's
+-- a trace is the same exactly where it is the dialogue's, of a terminal with an empty log
 abbrev pub SameIsDialogue : Type 0
-SameIsDialogue = (outset : Outset) (entries : List Entry) → (verdict outset entries ≡ Same) ↔ IsDialogue outset [] entries
+SameIsDialogue = (outset : Outset) (entries : List Entry) → (verdict outset entries ≡ Same) ↔ IsDialogue [] outset [] entries
 
 -- a front of the trace of a dialogue
 abbrev pub IsFront : Outset → List Entry → Type 0
-IsFront outset entries = (more : List Entry) × IsDialogue outset [] (entries ++ more)
+IsFront outset entries = (more : List Entry) × IsDialogue [] outset [] (entries ++ more)
 
 -- the entry that differs is the least one: the entries before it are a front of a dialogue's trace, and with it they
 -- are none, or it lacks

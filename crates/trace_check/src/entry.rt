@@ -88,7 +88,7 @@ fn decoded(alloc: Global, text: &[u8]) -> Result<Vec<u8>, AllocError>
 
 /// The bytes, at most so many, that a report's line shows by this text.
 #[tactic(auto, unfolding(crate::specs::Texts::bytes_shown))]
-fn bytes_shown(alloc: Global, most: usize, text: &[u8]) -> Result<Option<Bytes>, AllocError>
+pub fn bytes_shown(alloc: Global, most: usize, text: &[u8]) -> Result<Option<Bytes>, AllocError>
     requires { most ≤ 2048 }
     ensures { IfOk result (λ found. found ≡ spec.bytes_shown most text.now) }
 {

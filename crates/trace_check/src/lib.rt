@@ -11,6 +11,6 @@ pub mod taking;
 
 pub use compare::{Verdict, check};
 pub use ended::add_end_text;
-pub use entry::{Bytes, Entry};
+pub use entry::{Bytes, Entry, bytes_shown};
 pub use read::{Trace, read_trace};
-pub use taking::take;
+pub use taking::{take, take_with_log};

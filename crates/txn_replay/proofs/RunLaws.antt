@@ -8,6 +8,7 @@ pub mod SoundWorlds
 pub mod OneRun
 pub mod TruthValues
 pub mod WorkedRows
+pub mod SentGrows
 pub mod DialectLines
 pub mod LanesApart
 pub mod EventsLead

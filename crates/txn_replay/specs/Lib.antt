@@ -14,6 +14,9 @@ pub mod Sound
 pub mod Laws
 pub mod Telling
 pub mod ToldByLines
+pub mod Named
+pub mod Sessions
+pub mod Asking
 pub mod Choices
 pub mod Bounds
 pub mod Stored

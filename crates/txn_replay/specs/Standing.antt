@@ -72,6 +72,8 @@ pub record LaneKeeps (lane : Lane) (row : LaneRow) : Type 0 where
   pub amounts : All (λ logged. logged.amount ≤ most_amount) row.log
   pub captures : lane.captures.messages ≡ row.captures
   pub messages : All IsMessage row.captures
+  -- those that were made for the host
+  pub sent : All IsMessage row.sent
   -- whatever the next opening of its store finds
   pub stored : (found : Bool) → All IsMessage (list_found row.store.list row.store.lost found)
   pub found : lane.found ≡ option_map length row.store.found

@@ -1,5 +1,6 @@
 //! One exchange of a lane, on what it touches: the lane, its card, and the host.
 ghost use Rattle.std.specs.Prelude.{◌≡◌, ◌+◌, ◌≤◌, ◌<◌, ◌++◌, [], ℕ, List, Bool, length, true, false, ◌&&◌, is_none, IsSomeAnd, IfSome, IfOk, Some, None, Option, OnOk, OnErr, option_map};
+ghost use Rattle.auth_message.specs.Whole.{IsMessage};
 ghost use Rattle.card_state.specs.Decisions.{Decided};
 ghost use Rattle.host_link.specs.Delivery.{delivered, heard, reply_if};
 ghost use Rattle.host_link.specs.Dialect.{call_in, reply_in};
@@ -119,6 +120,8 @@ fn send(
         → HostStands host.new (messages ++ delivered at.now.planned.now.link (told_bytes (dialogue (outset_for p) replies)))) }
     ensures call { (p : Paid) (replies : List Reply) → RunStands running.now p (Some replies)
         → wire.new.call.items ≡ call_in at.now.iso (told_bytes (dialogue (outset_for p) replies)) }
+    // The host reads it.
+    ensures read { (p : Paid) (replies : List Reply) → RunStands running.now p (Some replies) → IsMessage (told_bytes (dialogue (outset_for p) replies)) }
     ensures shown { IfOk result (λ comes. (p : Paid) (replies : List Reply) → RunStands running.now p (Some replies)
         → reply_if comes wire.new.reply.items
         ≡ option_map (reply_in at.now.iso (told_bytes (dialogue (outset_for p) replies))) (reply_if comes reply.new.items)) }

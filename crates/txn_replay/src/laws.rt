@@ -1,10 +1,13 @@
 //! Laws over every run, whatever its scenario.
+ghost use Rattle.txn_replay.specs.Asking.{RunsAsk, WholeRunsAsk};
 ghost use Rattle.txn_replay.specs.Bounds.{WorldsAreFew, SettlementsAreFew, ChecksAreFew};
 ghost use Rattle.txn_replay.specs.Captured.{CapturesAreSent, LostAreTold, WholeRunsTellLost};
 ghost use Rattle.txn_replay.specs.Choices.{NoneIsOpen, RunIsOne};
 ghost use Rattle.txn_replay.specs.Laws.{RunsAreFair, WholeRunsAreFair, WorldsAreSound, IdleLanesStay, LanesStayApart, LossesAreTold, StuckIsOver, CalmIsOver};
+ghost use Rattle.txn_replay.specs.Named.{RunsNameCards, WholeRunsNameCards};
 ghost use Rattle.txn_replay.specs.PagesTell.{PagesTellTotals};
 ghost use Rattle.txn_replay.specs.Respelled.{DialectsShow, WholeDialectsShow};
+ghost use Rattle.txn_replay.specs.Sessions.{RunsTellSessions};
 ghost use Rattle.txn_replay.specs.StandAlone.{LanesStandAlone, CarriedAreOwn, FirstPartsAgree, StepsComeApart, AloneIsOwn, LaneRunIsOne};
 ghost use Rattle.txn_replay.specs.Stored.{StoresAreKept, SettlementGoesThrough, StoresAreEmptied};
 ghost use Rattle.txn_replay.specs.Telling.{GivenIsTold, GivenIsLeft, HeldIsSure, AnsweredIsSure};
@@ -75,6 +78,23 @@ pub fn dialects_show()
 pub fn losses_are_told()
     ensures reached { RunsTellLosses }
     ensures whole { WholeRunsTellLosses }
+{}
+
+/// In every run each command in its lines is what the dialogue of the lane's purchase asks there, behind what its terminal was
+/// told until then. The line behind it is the answer of the card's definition, for the decisions that the card has kept and
+/// its session, or tells that the power was cut or that no canned answer was left. The session is what the lines of the lane
+/// tell since its last power line: each command with its answer. A card of canned answers has given so many of them.
+pub fn commands_are_told()
+    ensures asked { RunsAsk }
+    ensures whole { WholeRunsAsk }
+    ensures sessions { RunsTellSessions }
+{}
+
+/// In every run each line that names a card has a name without a blank, so that the name ends where the blank behind
+/// it stands.
+pub fn cards_are_named()
+    ensures reached { RunsNameCards }
+    ensures whole { WholeRunsNameCards }
 {}
 
 /// Where no tear of a scenario leaves a choice, no card of a world that a run comes to has a decision that may be

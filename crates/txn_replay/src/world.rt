@@ -6,6 +6,7 @@ ghost use Rattle.emv_ports.specs.Memory.{IsBlank};
 ghost use Rattle.issuer_host.specs.History.{balance_after};
 ghost use Rattle.scenario.specs.Plan.{IsScenario};
 ghost use Rattle.txn_replay.specs.Reading.{data_at, ending_at};
+ghost use Rattle.txn_replay.specs.Respelled.{AreMessages};
 ghost use Rattle.txn_replay.specs.Run.{all_over, ended_count};
 ghost use Rattle.txn_replay.specs.Seen.{WorldSeen, WorldStands, IsUnmoved, EventHasLed, BankStands, IsSettling, IsNext, is_done, turns_left};
 ghost use Rattle.txn_replay.specs.Sound.{IsIdle};
@@ -270,6 +271,13 @@ impl<'s, P: Pages> World<'s, P> {
             → result ≡ balance_after self.now.scenario.issuer self.now.scenario.accounts w.messages pan.now }
     {
         self.common.host.balance(pan)
+    }
+
+    /// What the lanes have made for the host are messages that it reads.
+    pub fn made_messages(&self)
+        ensures { (w : SpecWorld) → WorldStands self.now w → AreMessages w }
+    {
+        let _lanes = self.lanes.len();
     }
 
     /// How many purchases have ended.

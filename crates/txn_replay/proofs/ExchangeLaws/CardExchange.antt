@@ -32,6 +32,7 @@ lane_on p lane row replies more kernel stands told outset = record {
     amounts = stands.keeps.amounts;
     captures = stands.keeps.captures;
     messages = stands.keeps.messages;
+    sent = stands.keeps.sent;
     stored = stands.keeps.stored;
     found = stands.keeps.found;
     card = λ none. cc;

@@ -2,7 +2,9 @@
 -- The message stands in the lane's row and with the host, as its link has it.
 use Rattle.std.proofs.Common.{◌≡◌, ℕ, Bool, true, false, List, [], ◌∷◌, ◌++◌, Option, Some, None, refl, ap, ◌∙◌}
 use Rattle.std.specs.Prelude.{option_map}
+use Rattle.std.proofs.lemmas.List.Elements.{All-push}
 use Rattle.std.proofs.lemmas.Option.{same_Some}
+use Rattle.auth_message.specs.Whole.{IsMessage}
 use Rattle.capture_store.specs.SeenLaneStore.{LaneStoreSeen}
 use Rattle.host_link.specs.Delivery.{reply_if}
 use Rattle.kernel.specs.Ended.{EndData}
@@ -16,16 +18,17 @@ use Rattle.txn_replay.specs.World.{LaneRow, with_sent}
 use Rattle.txn_replay.specs.declared.lane.Lane.{Lane}
 use Rattle.txn_replay.proofs.StoreLaws.StoreOpen.{lane_store_with}
 
--- the messages that it made aren't kept
+-- the messages that it made are those that the host reads
 pub stands_sent : (p : Payment) (lane : Lane) (row : LaneRow) (message : List ℕ) (running : Option (List Reply))
-    → LaneStands lane p (record row { running = running }) → LaneStands lane p (record (with_sent message row) { running = running })
-stands_sent p lane row message running stands = record {
+    → IsMessage message → LaneStands lane p (record row { running = running }) → LaneStands lane p (record (with_sent message row) { running = running })
+stands_sent p lane row message running is stands = record {
   keeps = record {
     ended = stands.keeps.ended;
     log = stands.keeps.log;
     amounts = stands.keeps.amounts;
     captures = stands.keeps.captures;
     messages = stands.keeps.messages;
+    sent = All-push IsMessage row.sent message stands.keeps.sent is;
     stored = stands.keeps.stored;
     found = stands.keeps.found;
     card = stands.keeps.card;

@@ -75,6 +75,7 @@ module _ (p : Payment) (lane later : Lane) (row : LaneRow) (replies : List Reply
       amounts = subst (λ xs. All (λ logged. logged.amount ≤ most_amount) xs) so.log so.amounts;
       captures = so.captures;
       messages = messages p.durable;
+      sent = keeps.sent;
       stored = stored p.durable refl;
       found = so.found ∙ keeps.found ∙ ap (λ (o : Option (List (List ℕ))). option_map length o) (sym (found_stays p.durable));
       card = λ none. so.card ∙ ap (λ (o : Option Past). option_and_then past_card o) (sym (last_past-push row.ended past));

@@ -32,6 +32,8 @@ pub record IsPayment (s : ScenarioData) (l : ℕ) (p : Payment) : Type 0 where
   pub iso : p.iso ≡ dialect_of s l
   pub durable : p.durable ≡ durable_of s l
   pub copies : p.copies ≡ s.copies
+  pub issuer : p.issuer ≡ s.issuer
+  pub accounts : p.accounts ≡ s.accounts
 
 pub payment_facts : (s : ScenarioData) (l n : ℕ) (p : Payment) → payment_in s l n ≡ Some p → IsPayment s l p
 unfolding payment_in
@@ -42,7 +44,7 @@ payment_facts s l n p is = by_lane (slice_get s.lanes l) refl is
     by_card lane planned None there at is = cc
     by_card lane planned (Some card) there at is =
         subst (λ (q : Payment). IsPayment s l q) (same_Some (payment_with s l lane planned card) p is)
-        (record { inside = slice_get_within s.lanes l lane at; card = there; lane = refl; iso = ap is_iso (sym at); durable = ap is_durable (sym at); copies = refl })
+        (record { inside = slice_get_within s.lanes l lane at; card = there; lane = refl; iso = ap is_iso (sym at); durable = ap is_durable (sym at); copies = refl; issuer = refl; accounts = refl })
 
     by_planned : (lane : LaneData) (o : Option Planned) → slice_get s.lanes l ≡ Some lane → option_and_then (payment_of s l lane) o ≡ Some p → IsPayment s l p
     by_planned lane None at is = cc

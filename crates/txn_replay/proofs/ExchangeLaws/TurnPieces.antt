@@ -109,6 +109,7 @@ keeps_same lane later row same keeps = record {
   amounts = keeps.amounts;
   captures = same.captures ∙ keeps.captures;
   messages = keeps.messages;
+  sent = keeps.sent;
   stored = keeps.stored;
   found = same.found ∙ keeps.found;
   card = λ none. same.card ∙ keeps.card (sym same.running ∙ none);
@@ -197,7 +198,7 @@ module _ (p : Payment) (lane later : Lane) (lane_store : LaneStoreSeen) (run_car
             told = now;
             runs = record {
               lane_is = record {
-                keeps = record { ended = keeps.ended; log = keeps.log; amounts = keeps.amounts; captures = keeps.captures; messages = keeps.messages; stored = keeps.stored; found = keeps.found; card = keeps.card; ending = keeps.ending };
+                keeps = record { ended = keeps.ended; log = keeps.log; amounts = keeps.amounts; captures = keeps.captures; messages = keeps.messages; sent = keeps.sent; stored = keeps.stored; found = keeps.found; card = keeps.card; ending = keeps.ending };
                 running = subst (λ (k : Option (Box KernelData)). RunStands k p (Some replies)) (sym same.running) now;
               };
               lane_store_is = stands.lane_store_is;

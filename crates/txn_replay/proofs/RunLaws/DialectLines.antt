@@ -1,8 +1,11 @@
 -- A run with lanes in other dialects, event by event: the same world, and the lines of host and settlement spelled anew.
 -- The same replies and decisions come of it: the laws `DialectsShow` and `WholeDialectsShow`.
 use Rattle.std.proofs.Common.{◌≡◌, ℕ, zero, suc, ◌+◌, ◌<◌, Bool, true, false, ◌&&◌, List, [], ◌∷◌, ◌++◌, length, map, replicate, slice_get, Option, Some, None, option_map, refl, sym, ap, ◌∙◌, subst, arith}
-use Rattle.std.specs.List.{flat_map}
-use Rattle.std.specs.Prelude.{is_none, option_and_then, ℤ}
+use Rattle.std.specs.List.{All, flat_map}
+use Rattle.std.specs.Prelude.{IfSome, is_none, option_and_then, ℤ}
+use Rattle.std.proofs.lemmas.List.{get_or-set_same}
+use Rattle.std.proofs.lemmas.List.Elements.{All-head, All-tail}
+use Rattle.auth_message.specs.Whole.{IsMessage, IsReply}
 use Rattle.capture_store.specs.StoreRow.{opened_to_add, is_next_cut}
 use Rattle.card_app.specs.Answering.{card_answer}
 use Rattle.card_pages.specs.Cuts.{Cut, cut_of}
@@ -11,7 +14,8 @@ use Rattle.card_pages.specs.Replies.{CardAnswer}
 use Rattle.card_state.specs.Decisions.{Decided}
 use Rattle.emv_ports.specs.Cut.{names_commit}
 use Rattle.host_link.specs.Delivery.{heard}
-use Rattle.issuer_host.specs.Account.{AccountData}
+use Rattle.issuer_host.specs.Account.{AccountData, IsAccount}
+use Rattle.issuer_host.proofs.Replies.{replies_written}
 use Rattle.issuer_host.specs.History.{host_reply, balance_after}
 use Rattle.kernel.specs.Dialogue.{dialogue}
 use Rattle.kernel.specs.Ended.{EndData}
@@ -19,32 +23,50 @@ use Rattle.kernel.specs.Reply.{Reply, CardSaid, CardGone, from_host, Deed, ToCar
 use Rattle.report_text.specs.declared.line.Line.{Line}
 use Rattle.report_text.specs.declared.line.Line.TheVariants.{EndLost, Done}
 use Rattle.scenario.specs.Cards.{CardData}
-use Rattle.scenario.specs.Plan.{ScenarioData}
+use Rattle.scenario.specs.Plan.{ScenarioData, IsScenario}
 use Rattle.scenario_lanes.specs.Plan.{LaneData}
+use Rattle.scenario_lanes.specs.declared.plan.Link.{Link}
+use Rattle.scenario_lanes.specs.declared.plan.Link.TheVariants.{Sound, RequestLost, ReplyLost, Twice}
 use Rattle.scenario_lanes.specs.declared.plan.Planned.{Planned}
 use Rattle.txn_replay.specs.Changes.{exchanged, told_once, row_torn, lost}
 use Rattle.txn_replay.specs.Lines.{power_line, power_canned_line, power_torn_line, answer_lines, torn_lines, gone_lines, host_lines, outcome_line}
 use Rattle.txn_replay.specs.Part.{Part, Moved, loses, ended_by_record, sending, on_for, cut_ends, lane_answered_by, canned_by, asked_of_card, asked, purchase_begun, begun_by, begun_with, piece_by, piece}
 use Rattle.txn_replay.specs.Payment.{Payment, payment_with, payment_of, payment_on, payment_in, is_iso, dialect_of, is_durable, durable_of, next_of, outset_for, end_at}
-use Rattle.txn_replay.specs.Respelled.{lanes_in, in_dialects, is_host, AreRespelled, no_lines, same_line, exchange, silence, settled, DialectsShow, WholeDialectsShow}
+use Rattle.txn_replay.specs.Respelled.{lanes_in, in_dialects, is_host, AreRespelled, no_lines, same_line, exchange, silence, settled, AreMessages, DialectsShow, WholeDialectsShow}
 use Rattle.txn_replay.specs.Run.{RunPlace, Scheduled, Round, Finished, Reached, start, scheduled, rounds, round, again, settlement, settling, audit, auditing, finished, lane_over, all_below, all_over, balance_line, account_lines, ended_count, closing}
-use Rattle.txn_replay.specs.Steps.{After, Settlement, Opens, Sends, lane_settlements, settlements_from, Check, PowersUp, Asks, part_of, lane_moved, choice_in, turned_by, settlements, settles, checks, audits, happens, Step}
+use Rattle.txn_replay.specs.Steps.{After, Settlement, Opens, Sends, lane_settlements, settlements_from, lane_settled, Check, PowersUp, Asks, part_of, lane_moved, choice_in, turned_by, settlements, settles, checks, audits, happens, Step}
 use Rattle.txn_replay.specs.Storing.{part_with, copied, copy_lines, dropped_by, delivers_first, opened_for, opens_by, goes_through, stored_by, free_by, runs_by, before_by, moved_behind, lane_piece}
 use Rattle.txn_replay.specs.World.{Holder, LaneRow, World, new_lane, first_world, lane_at}
 use Rattle.txn_replay.specs.declared.event.Event.{Event}
 use Rattle.txn_replay.specs.declared.event.Event.TheVariants.{Turn, Settle, Audit}
+use Rattle.txn_replay.specs.Sound.{IsWorldSound}
 use Rattle.txn_replay.proofs.ExchangeLaws.PurchaseFacts.{payment_facts}
+use Rattle.txn_replay.proofs.RunLaws.FairRuns.{reached_sound}
+use Rattle.txn_replay.proofs.RunLaws.LinesReached.{lane_behind}
+use Rattle.txn_replay.proofs.RunLaws.SentGrows.{all_last, messages_before}
+use Rattle.txn_replay.proofs.SettlementLaws.SettlementSteps.{settles_inside}
+
+-- what comes back of a reply is that reply
+heard_reply : (link : Link) (reply : List ℕ) → IsReply reply → IfSome (heard link reply) IsReply
+heard_reply Sound reply is = is
+heard_reply RequestLost reply is = tt
+heard_reply ReplyLost reply is = tt
+heard_reply Twice reply is = is
+
+last_message : (messages : List (List ℕ)) (message : List ℕ) → All IsMessage (messages ++ message ∷ []) → IsMessage message
+last_message messages message all = All-head IsMessage message [] (all_last messages (message ∷ []) all)
 
 module _ (before after : ℕ → Bool) where
   respelled-append : (xs ys us vs : List Line) → AreRespelled before after xs ys → AreRespelled before after us vs
       → AreRespelled before after (xs ++ us) (ys ++ vs)
   respelled-append _ _ us vs no_lines second = second
   respelled-append _ _ us vs (same_line {xs} {ys} line no_host rest) second = same_line line no_host (respelled-append xs ys us vs rest second)
-  respelled-append _ _ us vs (exchange {xs} {ys} lane message reply rest) second =
-      exchange lane message reply (respelled-append xs ys us vs rest second)
-  respelled-append _ _ us vs (silence {xs} {ys} lane message rest) second = silence lane message (respelled-append xs ys us vs rest second)
-  respelled-append _ _ us vs (settled {xs} {ys} lane message reply rest) second =
-      settled lane message reply (respelled-append xs ys us vs rest second)
+  respelled-append _ _ us vs (exchange {xs} {ys} lane message reply read said rest) second =
+      exchange lane message reply read said (respelled-append xs ys us vs rest second)
+  respelled-append _ _ us vs (silence {xs} {ys} lane message read rest) second =
+      silence lane message read (respelled-append xs ys us vs rest second)
+  respelled-append _ _ us vs (settled {xs} {ys} lane message reply read said rest) second =
+      settled lane message reply read said (respelled-append xs ys us vs rest second)
 
   -- one exchange of a purchase, in both dialects
   record SameMoved (m n : Moved) : Type 0 where
@@ -52,7 +74,7 @@ module _ (before after : ℕ → Bool) where
     pub choices : m.choices ≡ n.choices
     pub lines : AreRespelled before after m.lines n.lines
 
-  module _ (p : Payment) where
+  module _ (p : Payment) (known : All IsAccount p.accounts) where
     abbrev one : Payment
     one = record p { iso = before p.lane }
 
@@ -113,20 +135,40 @@ module _ (before after : ℕ → Bool) where
         (cut_of p.planned.tear part.card.made (card_answer p.card.image part.card.kept part.card.session command).new)
     kind_same replies command part (Some answers) = canned_same replies command part (slice_get answers part.card.told)
 
-    host_same : (message : List ℕ) (o : Option (List ℕ))
+    host_same : (message : List ℕ) (o : Option (List ℕ)) → IsMessage message → IfSome o IsReply
         → AreRespelled before after (host_lines (before p.lane) p.lane message o) (host_lines (after p.lane) p.lane message o)
-    host_same message None = silence p.lane message no_lines
-    host_same message (Some reply) = exchange p.lane message reply no_lines
+    host_same message None read said = silence p.lane message read no_lines
+    host_same message (Some reply) read said = exchange p.lane message reply read said no_lines
 
-    asked_same : (replies : List Reply) (part : Part) (deed : Deed) → SameMoved (asked one replies part deed) (asked two replies part deed)
-    asked_same replies part (ToCard command) = kind_same replies command part p.card.canned
-    asked_same replies part (ToHost message) =
+    -- an end leaves what was made for the host
+    sent_stays : (replies : List Reply) (part : Part) (lines : List Line) (e : Option EndData)
+        → (ended_by_record one replies part lines e).part.lane.sent ≡ part.lane.sent
+    sent_stays replies part lines None = refl
+    sent_stays replies part lines (Some end) = refl
+
+    -- the host reads what this has made for it
+    abbrev AreRead : Moved → Type 0
+    AreRead m = All IsMessage m.part.lane.sent
+
+    asked_same : (replies : List Reply) (part : Part) (deed : Deed) → AreRead (asked one replies part deed)
+        → SameMoved (asked one replies part deed) (asked two replies part deed)
+    asked_same replies part (ToCard command) read = kind_same replies command part p.card.canned
+    asked_same replies part (ToHost message) read =
         settled_same (replies ++ from_host answer ∷ []) (sending p message part) (host_lines (before p.lane) p.lane message answer)
-        (host_lines (after p.lane) p.lane message answer) (end_at p (replies ++ from_host answer ∷ [])) (host_same message answer)
+        (host_lines (after p.lane) p.lane message answer) (end_at p (replies ++ from_host answer ∷ []))
+        (host_same message answer is_read (heard_reply p.planned.link (host_reply p.issuer p.accounts part.messages message)
+        (replies_written p.issuer p.accounts part.messages message known)))
       where
         answer : Option (List ℕ)
         answer = heard p.planned.link (host_reply p.issuer p.accounts part.messages message)
-    asked_same replies part (Over ending) = record { part = refl; choices = refl; lines = no_lines }
+
+        is_read : IsMessage message
+        is_read =
+            last_message part.lane.sent message
+            (subst (λ (ms : List (List ℕ)). All IsMessage ms)
+            (sent_stays (replies ++ from_host answer ∷ []) (sending p message part) (host_lines (before p.lane) p.lane message answer)
+            (end_at p (replies ++ from_host answer ∷ []))) read)
+    asked_same replies part (Over ending) read = record { part = refl; choices = refl; lines = no_lines }
 
     tear_same : (part : Part) (choice is_cut : Bool) → SameMoved (begun_by one part choice is_cut) (begun_by two part choice is_cut)
     tear_same part choice true =
@@ -150,73 +192,84 @@ module _ (before after : ℕ → Bool) where
     holder_same part choice None = begun_same part choice p.card.canned
     holder_same part choice (Some holder) = record { part = refl; choices = refl; lines = no_lines }
 
-    running_same : (part : Part) (choice : Bool) (o : Option (List Reply)) → SameMoved (piece_by one part choice o) (piece_by two part choice o)
-    running_same part choice None = holder_same part choice part.card.holder
-    running_same part choice (Some replies) = asked_same replies part (dialogue (outset_for p) replies).deed
+    running_same : (part : Part) (choice : Bool) (o : Option (List Reply)) → AreRead (piece_by one part choice o)
+        → SameMoved (piece_by one part choice o) (piece_by two part choice o)
+    running_same part choice None read = holder_same part choice part.card.holder
+    running_same part choice (Some replies) read = asked_same replies part (dialogue (outset_for p) replies).deed read
 
-    piece_same : (part : Part) (choice : Bool) → SameMoved (piece one part choice) (piece two part choice)
+    piece_same : (part : Part) (choice : Bool) → AreRead (piece one part choice) → SameMoved (piece one part choice) (piece two part choice)
     piece_same part choice = running_same part choice part.lane.running
 
     -- what comes before a purchase, and the exchange with it
-    copies_same : (message : List ℕ) (messages : List (List ℕ)) (n : ℕ)
+    copies_same : (message : List ℕ) (messages : List (List ℕ)) (n : ℕ) → All IsMessage (replicate n message)
         → AreRespelled before after (copy_lines one message messages n) (copy_lines two message messages n)
-    copies_same message messages zero = no_lines
-    copies_same message messages (suc n) =
-        respelled-append (copy_lines one message messages n) (copy_lines two message messages n) _ _ (copies_same message messages n)
-        (settled p.lane message (host_reply p.issuer p.accounts (messages ++ replicate n message) message) no_lines)
+    copies_same message messages zero read = no_lines
+    copies_same message messages (suc n) read =
+        respelled-append (copy_lines one message messages n) (copy_lines two message messages n) _ _
+        (copies_same message messages n (All-tail IsMessage message (replicate n message) read))
+        (settled p.lane message (host_reply p.issuer p.accounts (messages ++ replicate n message) message)
+        (All-head IsMessage message (replicate n message) read)
+        (replies_written p.issuer p.accounts (messages ++ replicate n message) message known) no_lines)
 
     dropped_same : (part : Part) (message : List ℕ) (cut : Bool)
+        → AreRead (dropped_by one (copied one message part) (copy_lines one message part.messages p.copies) cut)
         → SameMoved (dropped_by one (copied one message part) (copy_lines one message part.messages p.copies) cut)
         (dropped_by two (copied two message part) (copy_lines two message part.messages p.copies) cut)
-    dropped_same part message true = record {
+    dropped_same part message true read = record {
       part = refl;
       choices = refl;
       lines = respelled-append (copy_lines one message part.messages p.copies) (copy_lines two message part.messages p.copies)
-          (EndLost p.lane (length part.lane.ended + 1) ∷ []) (EndLost p.lane (length part.lane.ended + 1) ∷ []) (copies_same message part.messages p.copies)
+          (EndLost p.lane (length part.lane.ended + 1) ∷ []) (EndLost p.lane (length part.lane.ended + 1) ∷ [])
+          (copies_same message part.messages p.copies (all_last part.lane.sent (replicate p.copies message) read))
           (same_line _ refl no_lines);
     }
-    dropped_same part message false = record { part = refl; choices = refl; lines = copies_same message part.messages p.copies }
+    dropped_same part message false read = record {
+      part = refl;
+      choices = refl;
+      lines = copies_same message part.messages p.copies (all_last part.lane.sent (replicate p.copies message) read);
+    }
 
-    delivered_same : (part : Part) (list : List (List ℕ)) → SameMoved (delivers_first one part list) (delivers_first two part list)
-    delivered_same part [] = record { part = refl; choices = refl; lines = no_lines }
-    delivered_same part (message ∷ others) = dropped_same part message (is_next_cut p.planned.terminal_tear part.lane.store)
+    delivered_same : (part : Part) (list : List (List ℕ)) → AreRead (delivers_first one part list) → SameMoved (delivers_first one part list) (delivers_first two part list)
+    delivered_same part [] read = record { part = refl; choices = refl; lines = no_lines }
+    delivered_same part (message ∷ others) read = dropped_same part message (is_next_cut p.planned.terminal_tear part.lane.store) read
 
-    lane_same : (part : Part) (first second : Bool) → SameMoved (lane_piece one part first second) (lane_piece two part first second)
+    lane_same : (part : Part) (first second : Bool) → AreRead (lane_piece one part first second)
+        → SameMoved (lane_piece one part first second) (lane_piece two part first second)
     lane_same part first second = by_durable p.durable
       where
-        by_due : (due : Bool) → SameMoved (moved_behind one first second (goes_through one part due)) (moved_behind two first second (goes_through two part due))
-        by_due true = delivered_same part part.lane.store.list
-        by_due false = piece_same part first
+        by_due : (due : Bool) → AreRead (moved_behind one first second (goes_through one part due)) → SameMoved (moved_behind one first second (goes_through one part due)) (moved_behind two first second (goes_through two part due))
+        by_due true read = delivered_same part part.lane.store.list read
+        by_due false read = piece_same part first read
 
-        by_full : (full : Bool) → SameMoved (moved_behind one first second (opened_for (part_with (opened_to_add part.lane.store first) part) full))
+        by_full : (full : Bool) → AreRead (moved_behind one first second (opened_for (part_with (opened_to_add part.lane.store first) part) full)) → SameMoved (moved_behind one first second (opened_for (part_with (opened_to_add part.lane.store first) part) full))
             (moved_behind two first second (opened_for (part_with (opened_to_add part.lane.store first) part) full))
-        by_full true = record { part = refl; choices = refl; lines = no_lines }
-        by_full false =
-            let both = piece_same (part_with (opened_to_add part.lane.store first) part) second in
+        by_full true read = record { part = refl; choices = refl; lines = no_lines }
+        by_full false read =
+            let both = piece_same (part_with (opened_to_add part.lane.store first) part) second read in
             record { part = both.part; choices = ap (λ n. n + 1) both.choices; lines = both.lines }
 
-        by_cut : (cut : Bool) → SameMoved (moved_behind one first second (opens_by one part first cut)) (moved_behind two first second (opens_by two part first cut))
-        by_cut true = record { part = refl; choices = refl; lines = (same_line _ refl no_lines) }
-        by_cut false = by_full (opened_to_add part.lane.store first).due
+        by_cut : (cut : Bool) → AreRead (moved_behind one first second (opens_by one part first cut)) → SameMoved (moved_behind one first second (opens_by one part first cut)) (moved_behind two first second (opens_by two part first cut))
+        by_cut true read = record { part = refl; choices = refl; lines = (same_line _ refl no_lines) }
+        by_cut false read = by_full (opened_to_add part.lane.store first).due read
 
-        by_store : (o : Option ℕ) → SameMoved (moved_behind one first second (stored_by one part first o)) (moved_behind two first second (stored_by two part first o))
-        by_store None = by_cut (names_commit p.planned.terminal_tear 0)
-        by_store (Some made) = by_due part.lane.store.due
+        by_store : (o : Option ℕ) → AreRead (moved_behind one first second (stored_by one part first o)) → SameMoved (moved_behind one first second (stored_by one part first o)) (moved_behind two first second (stored_by two part first o))
+        by_store None read = by_cut (names_commit p.planned.terminal_tear 0) read
+        by_store (Some made) read = by_due part.lane.store.due read
 
-        by_holder : (o : Option Holder) → SameMoved (moved_behind one first second (free_by one part first o)) (moved_behind two first second (free_by two part first o))
-        by_holder None = by_store part.lane.store.commits
-        by_holder (Some holder) = record { part = refl; choices = refl; lines = no_lines }
+        by_holder : (o : Option Holder) → AreRead (moved_behind one first second (free_by one part first o)) → SameMoved (moved_behind one first second (free_by one part first o)) (moved_behind two first second (free_by two part first o))
+        by_holder None read = by_store part.lane.store.commits read
+        by_holder (Some holder) read = record { part = refl; choices = refl; lines = no_lines }
 
-        by_running : (o : Option (List Reply)) → SameMoved (moved_behind one first second (runs_by one part first o)) (moved_behind two first second (runs_by two part first o))
-        by_running None = by_holder part.card.holder
-        by_running (Some replies) = piece_same part first
+        by_running : (o : Option (List Reply)) → AreRead (moved_behind one first second (runs_by one part first o)) → SameMoved (moved_behind one first second (runs_by one part first o)) (moved_behind two first second (runs_by two part first o))
+        by_running None read = by_holder part.card.holder read
+        by_running (Some replies) read = piece_same part first read
 
-        by_durable : (durable : Bool)
+        by_durable : (durable : Bool) → AreRead (moved_behind one first second (before_by one part first durable))
             → SameMoved (moved_behind one first second (before_by one part first durable)) (moved_behind two first second (before_by two part first durable))
-        by_durable false = piece_same part first
-        by_durable true = by_running part.lane.running
+        by_durable false read = piece_same part first read
+        by_durable true read = by_running part.lane.running read
 
-module _ (s : ScenarioData) (iso : ℕ → Bool) where
+module _ (s : ScenarioData) (iso : ℕ → Bool) (fits : IsScenario s) where
   abbrev other : ScenarioData
   other = in_dialects iso s
 
@@ -292,23 +345,30 @@ module _ (s : ScenarioData) (iso : ℕ → Bool) where
     pub choices : a.choices ≡ b.choices
     pub lines : AreRespelled before after a.lines b.lines
 
-  turn_same : (w : World) (l : ℕ) (choices : List Bool) → SameAfter (happens s w (Turn l) choices) (happens other w (Turn l) choices)
-  turn_same w l choices =
-      subst (λ (o : Option Payment). SameAfter (happens s w (Turn l) choices) (turned_by w l choices o)) (sym (next_same w l)) (by (next_of s w l) refl)
+  turn_same : (w : World) (l : ℕ) (choices : List Bool) → IsWorldSound s w → AreMessages (happens s w (Turn l) choices).world
+      → SameAfter (happens s w (Turn l) choices) (happens other w (Turn l) choices)
+  turn_same w l choices sound read =
+      subst (λ (o : Option Payment). SameAfter (happens s w (Turn l) choices) (turned_by w l choices o)) (sym (next_same w l)) (by (next_of s w l) refl read)
     where
-      by : (o : Option Payment) → next_of s w l ≡ o → SameAfter (turned_by w l choices o) (turned_by w l choices (option_map (with_iso (after l)) o))
-      by None is = record { world = refl; choices = refl; lines = no_lines }
-      by (Some p) is =
+      by : (o : Option Payment) → next_of s w l ≡ o → AreMessages (turned_by w l choices o).world → SameAfter (turned_by w l choices o) (turned_by w l choices (option_map (with_iso (after l)) o))
+      by None is messages = record { world = refl; choices = refl; lines = no_lines }
+      by (Some p) is messages =
           let part : Part = part_of w l p.planned.card in
           let m : Moved = lane_piece p part (choice_in choices 0) (choice_in choices 1) in
           let n : Moved = lane_piece (with_iso (after l) p) part (choice_in choices 0) (choice_in choices 1) in
           let lane : p.lane ≡ l = (payment_facts s l _ p is).lane in
           let own : before p.lane ≡ p.iso = ap before lane ∙ sym (payment_facts s l _ p is).iso in
+          let known : All IsAccount p.accounts =
+          subst (λ (accounts : List AccountData). All IsAccount accounts) (sym (payment_facts s l _ p is).accounts) fits.tables.accounts in
+          let made : All IsMessage m.part.lane.sent =
+          subst (λ (row : LaneRow). All IsMessage row.sent) (lane_behind s w l p sound is m) (messages l) in
+          let made_one : All IsMessage (lane_piece (with_iso (before p.lane) p) part (choice_in choices 0) (choice_in choices 1)).part.lane.sent =
+          subst (λ b. All IsMessage (lane_piece (with_iso b p) part (choice_in choices 0) (choice_in choices 1)).part.lane.sent) (sym own) made in
           let both : SameMoved before after m n =
           subst (λ b. SameMoved before after m (lane_piece (with_iso b p) part (choice_in choices 0) (choice_in choices 1))) (ap after lane)
           (subst (λ b. SameMoved before after (lane_piece (with_iso b p) part (choice_in choices 0) (choice_in choices 1))
           (lane_piece (with_iso (after p.lane) p) part (choice_in choices 0) (choice_in choices 1))) own
-          (lane_same before after p part (choice_in choices 0) (choice_in choices 1))) in
+          (lane_same before after p known part (choice_in choices 0) (choice_in choices 1) made_one)) in
           record {
             world = ap (λ (x : Part). (lane_moved w l p.planned.card (record { part = x; lines = []; choices = 0 })).world) both.part;
             choices = both.choices;
@@ -333,26 +393,35 @@ module _ (s : ScenarioData) (iso : ℕ → Bool) where
   settlements_same : (w : World) (k : ℕ) → slice_get (settlements other w) k ≡ slice_get (settlements s w) k
   settlements_same w k = ap (λ (xs : List Settlement). slice_get xs k) (steps_same 0 w.lanes)
 
-  settle_same : (w : World) (choices : List Bool) (o : Option Settlement) → SameAfter (settles s w choices o) (settles other w choices o)
-  settle_same w choices None = record { world = refl; choices = refl; lines = no_lines }
-  settle_same w choices (Some (Opens l)) = record { world = refl; choices = refl; lines = no_lines }
-  settle_same w choices (Some (Sends l message drops)) = record {
+  settle_same : (w : World) (k : ℕ) (choices : List Bool) (o : Option Settlement) → slice_get (settlements s w) k ≡ o → AreMessages (settles s w choices o).world
+      → SameAfter (settles s w choices o) (settles other w choices o)
+  settle_same w k choices None is read = record { world = refl; choices = refl; lines = no_lines }
+  settle_same w k choices (Some (Opens l)) is read = record { world = refl; choices = refl; lines = no_lines }
+  settle_same w k choices (Some (Sends l message drops)) is read = record {
     world = refl;
     choices = refl;
-    lines = settled l message (host_reply s.issuer s.accounts w.messages message) no_lines;
+    lines = settled l message (host_reply s.issuer s.accounts w.messages message) is_read
+        (replies_written s.issuer s.accounts w.messages message fits.tables.accounts) no_lines;
   }
+    where
+      row_is : lane_at (settles s w choices (Some (Sends l message drops))).world l ≡ lane_settled message drops (lane_at w l)
+      row_is = get_or-set_same w.lanes l (lane_settled message drops (lane_at w l)) new_lane (settles_inside s w.lanes k (Sends l message drops) is)
+
+      is_read : IsMessage message
+      is_read = last_message (lane_at w l).sent message (subst (λ (row : LaneRow). All IsMessage row.sent) row_is (read l))
 
   audit_same : (w : World) (choices : List Bool) (o : Option Check) → SameAfter (audits w choices o) (audits w choices o)
   audit_same w choices None = record { world = refl; choices = refl; lines = no_lines }
   audit_same w choices (Some (PowersUp i card)) = record { world = refl; choices = refl; lines = (same_line _ refl no_lines) }
   audit_same w choices (Some (Asks i card command)) = record { world = refl; choices = refl; lines = (same_line _ refl (same_line _ refl no_lines)) }
 
-  event_same : (w : World) (e : Event) (choices : List Bool) → SameAfter (happens s w e choices) (happens other w e choices)
-  event_same w (Turn l) choices = turn_same w l choices
-  event_same w (Settle k) choices =
+  event_same : (w : World) (e : Event) (choices : List Bool) → IsWorldSound s w → AreMessages (happens s w e choices).world
+      → SameAfter (happens s w e choices) (happens other w e choices)
+  event_same w (Turn l) choices sound read = turn_same w l choices sound read
+  event_same w (Settle k) choices sound read =
       subst (λ (o : Option Settlement). SameAfter (settles s w choices (slice_get (settlements s w) k)) (settles other w choices o)) (sym (settlements_same w k))
-      (settle_same w choices (slice_get (settlements s w) k))
-  event_same w (Audit k) choices = audit_same w choices (slice_get (checks s) k)
+      (settle_same w k choices (slice_get (settlements s w) k) refl read)
+  event_same w (Audit k) choices sound read = audit_same w choices (slice_get (checks s) k)
 
   -- and so each run
   record Other (place : RunPlace) (n : ℕ) (choices : List Bool) (lines : List Line) (w : World) : Type 0 where
@@ -360,11 +429,13 @@ module _ (s : ScenarioData) (iso : ℕ → Bool) where
     pub reached : Reached other place n choices others w
     pub respelled : AreRespelled before after lines others
 
-  goes : (here there : RunPlace) (n : ℕ) (cs c : List Bool) (ls new : List Line) (w w' : World) (e : Event) → Other here n cs ls w → Step s w e c new w'
-      → ((others made : List Line) → Reached other here n cs others w → Step other w e c made w' → Reached other there (n + 1) (cs ++ c) (others ++ made) w')
+  goes : (here there : RunPlace) (n : ℕ) (cs c : List Bool) (ls new : List Line) (w w' : World) (e : Event) → IsWorldSound s w → AreMessages w' → (AreMessages w → Other here n cs ls w)
+      → Step s w e c new w' → ((others made : List Line) → Reached other here n cs others w → Step other w e c made w' → Reached other there (n + 1) (cs ++ c) (others ++ made) w')
       → Other there (n + 1) (cs ++ c) (ls ++ new) w'
-  goes here there n cs c ls new w w' e far step grows =
-      let both : SameAfter (happens s w e c) (happens other w e c) = event_same w e c in
+  goes here there n cs c ls new w w' e sound read earlier step grows =
+      let led : AreMessages (happens s w e c).world = subst AreMessages step.leads read in
+      let far : Other here n cs ls w = earlier (messages_before s w e c led) in
+      let both : SameAfter (happens s w e c) (happens other w e c) = event_same w e c sound led in
       let made : List Line = (happens other w e c).lines in
       record {
         others = far.others ++ made;
@@ -377,32 +448,32 @@ module _ (s : ScenarioData) (iso : ℕ → Bool) where
       → ((others : List Line) → Reached other here n cs others w → Reached other there n cs others w) → Other there n cs ls w
   stands_at here there n cs ls w far moves = record { others = far.others; reached = moves far.others far.reached; respelled = far.respelled }
 
-  other_run : (place : RunPlace) (n : ℕ) (choices : List Bool) (lines : List Line) (w : World) → Reached s place n choices lines w → Other place n choices lines w
-  other_run _ _ _ _ _ start = record {
+  other_run : (place : RunPlace) (n : ℕ) (choices : List Bool) (lines : List Line) (w : World) → Reached s place n choices lines w → AreMessages w → Other place n choices lines w
+  other_run _ _ _ _ _ start read = record {
     others = [];
     reached =
         subst (λ (rows : List LaneRow). Reached other (Scheduled 0) 0 [] [] (record { cards = (first_world s).cards; lanes = rows; messages = [] }))
         (new_lanes 0 s.lanes) start;
     respelled = no_lines;
   }
-  other_run _ _ _ _ _ (scheduled {k} {l} {n} {cs} {c} {ls} {new} {w = v} {w' = v'} before_it at step) =
-      goes _ _ n cs c ls new v v' (Turn l) (other_run _ n cs ls v before_it) step (λ others made far next. scheduled far at next)
-  other_run _ _ _ _ _ (rounds {n} {cs} {ls} {w = v} before_it) = stands_at _ _ n cs ls v (other_run _ n cs ls v before_it) (λ others far. rounds far)
-  other_run _ _ _ _ _ (round {l} {n} {cs} {c} {ls} {new} {w = v} {w' = v'} before_it inside busy step) =
-      goes _ _ n cs c ls new v v' (Turn l) (other_run _ n cs ls v before_it) step
+  other_run _ _ _ _ _ (scheduled {k} {l} {n} {cs} {c} {ls} {new} {w = v} {w' = v'} before_it at step) read =
+      goes _ _ n cs c ls new v v' (Turn l) (reached_sound s _ n cs ls v before_it) read (other_run _ n cs ls v before_it) step (λ others made far next. scheduled far at next)
+  other_run _ _ _ _ _ (rounds {n} {cs} {ls} {w = v} before_it) read = stands_at _ _ n cs ls v (other_run _ n cs ls v before_it read) (λ others far. rounds far)
+  other_run _ _ _ _ _ (round {l} {n} {cs} {c} {ls} {new} {w = v} {w' = v'} before_it inside busy step) read =
+      goes _ _ n cs c ls new v v' (Turn l) (reached_sound s _ n cs ls v before_it) read (other_run _ n cs ls v before_it) step
       (λ others made far next. round far (subst (λ m. l < m) (sym (lane_count 0 s.lanes)) inside) (λ first. all_same v ∙ busy first) next)
-  other_run _ _ _ _ _ (again {n} {cs} {ls} {w = v} before_it) =
-      stands_at _ _ n cs ls v (other_run _ n cs ls v before_it)
+  other_run _ _ _ _ _ (again {n} {cs} {ls} {w = v} before_it) read =
+      stands_at _ _ n cs ls v (other_run _ n cs ls v before_it read)
       (λ others far. again (subst (λ m. Reached other (Round m) n cs others v) (sym (lane_count 0 s.lanes)) far))
-  other_run _ _ _ _ _ (settlement {n} {cs} {ls} {w = v} before_it over) =
-      stands_at _ _ n cs ls v (other_run _ n cs ls v before_it) (λ others far. settlement far (all_same v ∙ over))
-  other_run _ _ _ _ _ (settling {k} {n} {cs} {c} {ls} {new} {w = v} {w' = v'} before_it at step) =
-      goes _ _ n cs c ls new v v' (Settle k) (other_run _ n cs ls v before_it) step (λ others made far next. settling far (settlements_same v k ∙ at) next)
-  other_run _ _ _ _ _ (audit {k} {n} {cs} {ls} {w = v} before_it past) = stands_at _ _ n cs ls v (other_run _ n cs ls v before_it) (λ others far. audit far (settlements_same v k ∙ past))
-  other_run _ _ _ _ _ (auditing {k} {n} {cs} {c} {ls} {new} {w = v} {w' = v'} before_it at step) =
-      goes _ _ n cs c ls new v v' (Audit k) (other_run _ n cs ls v before_it) step (λ others made far next. auditing far at next)
-  other_run _ _ _ _ _ (finished {k} {n} {cs} {ls} {w = v} before_it past) =
-      stands_at _ _ n cs ls v (other_run _ n cs ls v before_it) (λ others far. finished far past)
+  other_run _ _ _ _ _ (settlement {n} {cs} {ls} {w = v} before_it over) read =
+      stands_at _ _ n cs ls v (other_run _ n cs ls v before_it read) (λ others far. settlement far (all_same v ∙ over))
+  other_run _ _ _ _ _ (settling {k} {n} {cs} {c} {ls} {new} {w = v} {w' = v'} before_it at step) read =
+      goes _ _ n cs c ls new v v' (Settle k) (reached_sound s _ n cs ls v before_it) read (other_run _ n cs ls v before_it) step (λ others made far next. settling far (settlements_same v k ∙ at) next)
+  other_run _ _ _ _ _ (audit {k} {n} {cs} {ls} {w = v} before_it past) read = stands_at _ _ n cs ls v (other_run _ n cs ls v before_it read) (λ others far. audit far (settlements_same v k ∙ past))
+  other_run _ _ _ _ _ (auditing {k} {n} {cs} {c} {ls} {new} {w = v} {w' = v'} before_it at step) read =
+      goes _ _ n cs c ls new v v' (Audit k) (reached_sound s _ n cs ls v before_it) read (other_run _ n cs ls v before_it) step (λ others made far next. auditing far at next)
+  other_run _ _ _ _ _ (finished {k} {n} {cs} {ls} {w = v} before_it past) read =
+      stands_at _ _ n cs ls v (other_run _ n cs ls v before_it read) (λ others far. finished far past)
 
   -- the lines at the end are no messages
   balance_same : (pan : List ℕ) (o : Option ℤ) → AreRespelled before after (balance_line pan o) (balance_line pan o)
@@ -422,15 +493,15 @@ module _ (s : ScenarioData) (iso : ℕ → Bool) where
       (Done (ended_count w) ∷ []) (accounts_same w s.accounts) (same_line _ refl no_lines)
 
 pub dialects_show : DialectsShow
-dialects_show s iso place n choices lines w reached =
-    let one : Other s iso place n choices lines w = other_run s iso place n choices lines w reached in (one.others, one.reached, one.respelled)
+dialects_show s iso place n choices lines w fits reached read =
+    let one : Other s iso fits place n choices lines w = other_run s iso fits place n choices lines w reached read in (one.others, one.reached, one.respelled)
 
 pub whole_dialects_show : WholeDialectsShow
-whole_dialects_show s iso lines w run =
-    let one : Other s iso Finished run.count run.choices run.reported w = other_run s iso Finished run.count run.choices run.reported w run.reached in (
+whole_dialects_show s iso lines w fits run read =
+    let one : Other s iso fits Finished run.count run.choices run.reported w = other_run s iso fits Finished run.count run.choices run.reported w run.reached read in (
       one.others ++ closing s w,
       record { count = run.count; choices = run.choices; reported = one.others; reached = one.reached; whole = refl },
       subst (λ (xs : List Line). AreRespelled (dialect_of s) (dialect_of (in_dialects iso s)) xs (one.others ++ closing s w)) (sym run.whole)
           (respelled-append (dialect_of s) (dialect_of (in_dialects iso s)) run.reported one.others (closing s w) (closing s w) one.respelled
-          (closing_same s iso w)),
+          (closing_same s iso fits w)),
     )

@@ -4,7 +4,7 @@ use Rattle.std.proofs.Common.{◌≡◌, ℕ, zero, suc, ◌&&◌, ◌+◌, ◌-
 use Rattle.std.specs.List.{All}
 use Rattle.std.specs.Prelude.{is_some, option_map, unwrap_or}
 use Rattle.std.proofs.lemmas.Bool.{cases_eq}
-use Rattle.std.proofs.lemmas.List.Elements.{All-drop}
+use Rattle.std.proofs.lemmas.List.Elements.{All-drop, All-head, All-push}
 use Rattle.std.proofs.lemmas.Option.{same_Some, slice_get_within, get_or_from_slice_get, slice_get-get_or}
 use Rattle.auth_message.specs.Whole.{IsMessage}
 use Rattle.capture_store.specs.Calls.{Call, list_found}
@@ -43,11 +43,11 @@ use Rattle.txn_replay.proofs.ExchangeLaws.PurchasesCounted.{counts_with}
 use Rattle.txn_replay.proofs.RunLaws.TurnsEnd.{below_over, over_next}
 
 -- a lane that keeps what it kept, with another store and other messages made for the host
-at_with : (s : ScenarioData) (l : ℕ) (lane : Lane) (row : LaneRow) (sent : List (List ℕ)) (store : StoreRow) → LaneAt s l lane row
+at_with : (s : ScenarioData) (l : ℕ) (lane : Lane) (row : LaneRow) (sent : List (List ℕ)) (store : StoreRow) → LaneAt s l lane row → All IsMessage sent
     → ((found : Bool) → All IsMessage (list_found store.list store.lost found)) → lane.found ≡ option_map length store.found
     → LaneAt s l lane (record row { sent = sent; store = store })
-at_with s l lane row sent store at stored found = record {
-  keeps = keeps_with lane row sent store at.keeps stored found;
+at_with s l lane row sent store at messages stored found = record {
+  keeps = keeps_with lane row sent store at.keeps messages stored found;
   runs = runs_so (payment_in s l (length row.ended)) at.runs;
 }
   where
@@ -66,6 +66,7 @@ at_found s l lane row found store at stored is = record {
     amounts = at.keeps.amounts;
     captures = at.keeps.captures;
     messages = at.keeps.messages;
+    sent = at.keeps.sent;
     stored = stored;
     found = is;
     card = at.keeps.card;
@@ -281,6 +282,7 @@ module _ (v : WorldSeen) (w : World) (stands : WorldStands v w) where
           lane_own x there =
               subst (λ (store : StoreRow). LaneAt v.scenario l x (record (lane_at w l) { sent = (lane_at w l).sent ++ message ∷ []; store = store })) (sym store_is)
               (at_with v.scenario l x (lane_at w l) ((lane_at w l).sent ++ message ∷ []) (lane_at w l).store (stands.lanes l x there)
+              (All-push IsMessage (lane_at w l).sent message (stands.lanes l x there).keeps.sent (settles_message k l message drops here off x there))
               (stands.lanes l x there).keeps.stored (stands.lanes l x there).keeps.found)
 
           -- a lane without a store has none afterwards
@@ -328,6 +330,10 @@ module _ (v : WorldSeen) (w : World) (stands : WorldStands v w) where
         pub are_messages : All IsMessage open_store.list
         are_messages =
             subst (λ (o : Option Call). All IsMessage (list_found open_store.list o true)) reached.none ((stands.lanes l lane lane_there).keeps.stored true)
+
+        is_message : IsMessage message
+        is_message =
+            All-head IsMessage message (drop (sends.place / v.scenario.copies + 1) reached.found) (subst (λ (xs : List (List ℕ)). All IsMessage xs) list_is are_messages)
 
         store_own : StoreStands lane_store (lane_at w l) (terminal_plan (payment_in v.scenario l (length (lane_at w l).ended)))
         store_own =
@@ -380,6 +386,7 @@ module _ (v : WorldSeen) (w : World) (stands : WorldStands v w) where
                 let same : lane ≡ x = same_Some lane x (sym lane_there ∙ there) in
                 subst (λ (y : Lane). LaneAt v.scenario l y sent_row) same
                 (at_with v.scenario l lane (lane_at w l) ((lane_at w l).sent ++ message ∷ []) (settled_store drops open_store) (stands.lanes l lane lane_there)
+                (All-push IsMessage (lane_at w l).sent message (stands.lanes l lane lane_there).keeps.sent is_message)
                 (stored_after drops) ((stands.lanes l lane lane_there).keeps.found ∙ ap (λ o. option_map length o) (sym (found_after drops))))
 
             placed : (o : Option ℕ) → is_some o ≡ true → (plan : Option Tear) → plan ≡ None → StorePlace behind (settled_store drops open_store) plan o

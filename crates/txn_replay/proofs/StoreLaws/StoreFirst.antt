@@ -5,7 +5,7 @@ use Rattle.std.specs.List.{All}
 use Rattle.std.specs.Prelude.{◌==◌, if◌then◌else◌, not, ◌&&◌, is_some, option_map, option_and_then, option_to_list}
 use Rattle.std.proofs.lemmas.Bool.{eqb-true}
 use Rattle.std.proofs.lemmas.Bool.Decides.{nat_tests}
-use Rattle.std.proofs.lemmas.List.Elements.{All-append, All-drop}
+use Rattle.std.proofs.lemmas.List.Elements.{All-append, All-drop, All-head, All-replicate}
 use Rattle.std.proofs.lemmas.List.Sums.{sum_by-append, sum_by-cons}
 use Rattle.auth_message.specs.Whole.{IsMessage}
 use Rattle.capture_store.proofs.Sendings.{leaves_one}
@@ -61,6 +61,7 @@ lost_keeps lane row keeps = record {
   amounts = keeps.amounts;
   captures = keeps.captures;
   messages = keeps.messages;
+  sent = keeps.sent;
   stored = keeps.stored;
   found = keeps.found;
   card = λ none. ap (λ (o : Option Past). option_and_then past_card o) (sym (last_past-push row.ended gone));
@@ -71,15 +72,16 @@ lost_keeps lane row keeps = record {
     gone = record { began = None; replies = []; end = None; lost = true }
 
 -- with another store, and other messages made for the host
-pub keeps_with : (lane : Lane) (row : LaneRow) (sent : List (List ℕ)) (store : StoreRow) → LaneKeeps lane row
+pub keeps_with : (lane : Lane) (row : LaneRow) (sent : List (List ℕ)) (store : StoreRow) → LaneKeeps lane row → All IsMessage sent
     → ((found : Bool) → All IsMessage (list_found store.list store.lost found)) → lane.found ≡ option_map length store.found
     → LaneKeeps lane (record row { sent = sent; store = store })
-keeps_with lane row sent store keeps stored found = record {
+keeps_with lane row sent store keeps messages stored found = record {
   ended = keeps.ended;
   log = keeps.log;
   amounts = keeps.amounts;
   captures = keeps.captures;
   messages = keeps.messages;
+  sent = messages;
   stored = stored;
   found = found;
   card = keeps.card;
@@ -138,7 +140,7 @@ module _ (p : Payment) (lane : Lane) (lane_store : LaneStoreSeen) (part : Part) 
 
   -- behind the opening
   pub opened_keeps : (one : Bool) → LaneKeeps lane (with_store (opened_to_add part.lane.store one) part.lane)
-  opened_keeps one = keeps_with lane part.lane part.lane.sent (opened_to_add part.lane.store one) rests.keeps (λ found. rests.keeps.stored one) rests.keeps.found
+  opened_keeps one = keeps_with lane part.lane part.lane.sent (opened_to_add part.lane.store one) rests.keeps rests.keeps.sent (λ found. rests.keeps.stored one) rests.keeps.found
 
   pub opened_stands : (one : Bool) (behind : LaneStoreSeen) → LaneStoreOn behind (store_opened part.lane.store one) p.planned.terminal_tear → store_losses behind ≡ store_losses lane_store
       → LaneStoreFor behind (with_store (opened_to_add part.lane.store one) part.lane) p.planned.terminal_tear p.durable
@@ -250,6 +252,9 @@ module _ (p : Payment) (lane : Lane) (lane_store : LaneStoreSeen) (part : Part) 
   list_is : own_store.list ≡ message ∷ drop 1 own_store.list
   list_is = drop_at own_store.list 0 message first_is
 
+  is_message : IsMessage message
+  is_message = All-head IsMessage message (drop 1 own_store.list) (subst (λ (xs : List (List ℕ)). All IsMessage xs) list_is are_messages)
+
   abbrev cut : Bool
   cut = is_next_cut own_plan own_store
 
@@ -262,6 +267,7 @@ module _ (p : Payment) (lane : Lane) (lane_store : LaneStoreSeen) (part : Part) 
   pub copied_keeps : LaneKeeps lane (lane_copied p message part.lane)
   copied_keeps =
       keeps_with lane part.lane (part.lane.sent ++ replicate p.copies message) (delivered_by own_plan own_store) rests.keeps
+      (All-append IsMessage part.lane.sent (replicate p.copies message) rests.keeps.sent (All-replicate IsMessage p.copies message is_message))
       (delivered_messages own_plan own_store opened_once.none are_messages)
       (rests.keeps.found ∙ ap (λ (o : Option (List (List ℕ))). option_map length o) (sym (delivered_found own_plan own_store)))
 

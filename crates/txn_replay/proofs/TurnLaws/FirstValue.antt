@@ -79,6 +79,7 @@ first_stands v new_run_cards lanes count new_stores host tally = record {
       amounts = λ k d within. absurd (omega arith);
       captures = new.captures;
       messages = λ k d within. absurd (omega arith);
+      sent = λ k d within. absurd (omega arith);
       stored = λ found k d within. absurd (omega arith);
       found = new.found;
       card = λ none. ap card_last_read new.place;

@@ -2,11 +2,13 @@
 -- What reading gave, how purchases have ended, and how many, are those of the world.
 use Rattle.std.proofs.Common.{◌≡◌, ◌≢◌, ◌⊎◌, ℕ, zero, suc, ◌+◌, ◌-◌, ◌≤◌, ◌<◌, true, false, ◌&&◌, eqb, List, [], ◌∷◌, length, get_or, slice_get, Option, Some, None, refl, sym, ap, ◌∙◌, subst, inl, inr, arith}
 use Rattle.std.specs.Global.{Box}
-use Rattle.std.specs.List.{sum_by}
+use Rattle.std.specs.List.{All, sum_by}
 use Rattle.std.specs.Prelude.{◌==◌, is_none, option_map, option_and_then}
 use Rattle.std.proofs.lemmas.Bool.{cases_order}
 use Rattle.std.proofs.lemmas.Bool.Decides.{eqb_tells}
+use Rattle.std.proofs.lemmas.List.Elements.{All-nil}
 use Rattle.std.proofs.lemmas.List.Sums.{sum_by-cons}
+use Rattle.auth_message.specs.Whole.{IsMessage}
 use Rattle.std.proofs.lemmas.Option.{slice_get_within, slice_get_past, get_or_from_slice_get}
 use Rattle.card_files.specs.Files.{opening_of}
 use Rattle.card_files.specs.Views.{ImageData}
@@ -30,6 +32,7 @@ use Rattle.txn_replay.specs.Banked.{IsRunCardLeft, AreGiven}
 use Rattle.txn_replay.specs.Bounds.{purchases_in}
 use Rattle.txn_replay.specs.Payment.{Payment, payment_with, payment_of, payment_on, payment_in, next_of, outset_for}
 use Rattle.txn_replay.specs.Reading.{data_by, data_at, data_after}
+use Rattle.txn_replay.specs.Respelled.{AreMessages}
 use Rattle.txn_replay.specs.Run.{lane_over, all_below, all_over, ended_count}
 use Rattle.txn_replay.specs.Seen.{WorldSeen, RunFor, LaneAt, WorldStands, is_lane_done, done_below, is_done, PagesAre, plan_for}
 use Rattle.txn_replay.specs.RunCard.{RunCardSeen, OfApps, OfCanned, RunCardOn, RunCardOff, IsRunCardOf, HasLost}
@@ -235,3 +238,21 @@ given_cards v w bank stands count given i card is =
         → RunCardOff run_card row.kept row.pending ⊎ RunCardOn run_card row plan
     placed run_card row plan None off = inl off
     placed run_card row plan (Some h) on = inr on
+
+-- what isn't there is the default
+absent : {A : Type 0} (xs : List A) (i : ℕ) (d : A) → slice_get xs i ≡ None → get_or xs i d ≡ d
+absent [] i d none = refl
+absent (x ∷ xs) zero d none = cc
+absent (x ∷ xs) (suc i) d none = absent xs i d none
+
+-- what the lanes have made for the host are messages
+pub made_messages : (v : WorldSeen) (w : World) → WorldStands v w → length v.lanes ≡ length v.scenario.lanes → AreMessages w
+made_messages v w stands count l = by (slice_get w.lanes l) refl
+  where
+    by : (o : Option LaneRow) → slice_get w.lanes l ≡ o → All IsMessage (lane_at w l).sent
+    by None none = subst (λ (row : LaneRow). All IsMessage row.sent) (sym (absent w.lanes l new_lane none)) (All-nil IsMessage)
+    by (Some row) there =
+        let inside : l < length v.lanes =
+        (let a : l < length w.lanes = slice_get_within w.lanes l row there in let b : length w.lanes ≡ length v.scenario.lanes = stands.sound.lane_count in omega arith) in
+        let lane = some_at v.lanes l inside in
+        (stands.lanes l lane.0 lane.1).keeps.sent

@@ -1,8 +1,9 @@
 use Rattle.std.proofs.Common.{refl}
 use Rattle.std.proofs.lemmas.Result.{on_ok_weaker, on_err_weaker}
-use Rattle.emv_top.specs.RunsSoFar.{Replays, all_lines}
+use Rattle.emv_top.specs.RunsSoFar.{Replays, RunOfBytes, all_lines}
+use Rattle.emv_top.proofs.LineBytes.{closing_bytes}
 use Rattle.emv_top.proofs.Going.{begins, completes, stops_behind}
-use Rattle.txn_replay.specs.Run.{Reached, Scheduled, Finished, Run, closing, start}
+use Rattle.txn_replay.specs.Run.{Reached, Scheduled, Finished, closing, start}
 use Rattle.txn_replay.specs.World.{first_world}
 use Rattle.txn_replay.specs.Seen.{WorldStands}
 use Rattle.emv_top.proofs.replaying.replay_through.Goals as goal
@@ -19,7 +20,10 @@ returns-in-Ok-clause-ok g c =
     on_ok_weaker c.close.result
     (λ behind.
     completes (Reached c.args.scenario.now Finished) (closing c.args.scenario.now) (WorldStands c.events.new.world) _ _ _ (c.in-Ok.ensures.ok (g.K.Sink.held c.args.sink.now) begun)
-    (Run c.args.scenario.now) (λ n cs ls w reached stands. record { count = n; choices = cs; reported = ls; reached = reached; whole = refl }) behind)
+    (RunOfBytes c.args.scenario.now) (λ n cs ls w reached stands bytes. (
+      record { count = n; choices = cs; reported = ls; reached = reached; whole = refl },
+      closing_bytes c.args.scenario.now ls w bytes,
+    )) behind)
     c.close.ensures.all
 
 pub returns-in-Ok-clause-err : goal.returns-in-Ok-clause-err

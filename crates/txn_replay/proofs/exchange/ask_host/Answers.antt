@@ -23,7 +23,7 @@ returns-clause-led g c = λ replies part runs stood.
     let back = c.in_ok-comes.ensures.heard p replies part.messages runs.lane_is.running stood in
     let is : option_map (λ said. said.now) c.said-2.result ≡ reply = c.said-2.ensures.reply ∙ back in
     let told =
-    c.hear.ensures.told p replies (with_sent message part.lane) (stands_sent p c.args.lane.now part.lane message (Some replies) runs.lane_is) in
+    c.hear.ensures.told p replies (with_sent message part.lane) (stands_sent p c.args.lane.now part.lane message (Some replies) (c.send.ensures.read p replies runs.lane_is.running) runs.lane_is) in
     let stands : LaneStands c.hear.new.lane p (record (with_sent message part.lane) { running = Some (replies ++ from_host reply ∷ []) }) =
     subst (λ (o : Option (List ℕ)). LaneStands c.hear.new.lane p (record (with_sent message part.lane) { running = Some (replies ++ from_host o ∷ []) })) is told in
     let wired : option_map (λ said. said.now) c.said.result ≡ option_map (reply_in p.iso message) reply =
