@@ -1,4 +1,4 @@
 pub mod CannedTalks
 pub mod Serving
 pub mod Sides
-pub mod StateLines
+pub mod SinceTold

@@ -1,9 +1,11 @@
 -- A card in a reader: what it answers to each line (ISO/IEC 7816-4; EMV 4.3 Book 3 section 6.5).
 use Rattle.std.specs.Prelude.{◌≡◌, ℕ, ◌+◌, Bool, if◌then◌else◌, List, [], ◌∷◌, ◌++◌, length, codes, Option, Some, None, IsTrue}
 use Rattle.card_app.specs.Answering.{card_answer}
+use Rattle.card_app.specs.Reasons.{why_of}
 use Rattle.card_app.specs.SeenCard.{CardSeen}
 use Rattle.card_app.specs.SeenIcc.{IccOn, IccOff}
 use Rattle.card_app.specs.Session.{Exchange}
+use Rattle.card_app.specs.declared.reason.Reason.{Reason}
 use Rattle.card_files.specs.Files.{opening_of}
 use Rattle.card_files.specs.Views.{ImageData}
 use Rattle.card_pages.specs.Cuts.{Cut, cut_of, fate_by, kept_by, pending_by}
@@ -17,22 +19,31 @@ use Rattle.report_text.specs.Text.{all_shown}
 use Rattle.card_counters.specs.Counters.{shown_all}
 use Rattle.line_talk.specs.Turns.{Opening, Turn}
 use Rattle.line_talk.specs.declared.party.Onward.TheVariants.{Rests}
-use Rattle.card_at_reader.specs.StateText.{state_text}
-use Rattle.card_at_reader.specs.TornText.{torn_lines}
+use Rattle.card_words.specs.DecisionText.{decided_text}
+use Rattle.card_words.specs.ReasonText.{why_text}
+use Rattle.card_words.specs.StateText.{state_text}
+use Rattle.card_words.specs.declared.decision.Told.{Told}
+use Rattle.card_at_reader.specs.SincePower.{Since, cut_since, nothing_since, told_since}
+use Rattle.card_at_reader.specs.TornText.{torn_answer}
 use Rattle.card_at_reader.specs.Words.{line_word}
 use Rattle.card_at_reader.specs.declared.notes.Notes.{Notes}
 use Rattle.card_at_reader.specs.declared.word.Order.{Order}
 use Rattle.card_at_reader.specs.declared.word.Order.TheVariants.{Power, Off, Command, Pull}
 use Rattle.card_at_reader.specs.declared.word.Question.{Question}
-use Rattle.card_at_reader.specs.declared.word.Question.TheVariants.{State, Torn as TornAsked}
+use Rattle.card_at_reader.specs.declared.word.Question.TheVariants.{State, Torn as TornAsked, Decided as DecidedAsked, Why}
 use Rattle.card_at_reader.specs.declared.word.Word.{Word}
 use Rattle.card_at_reader.specs.declared.word.Word.TheVariants.{Does, Asks, Other}
 
--- on behind this session and these decisions since it was made, of them so many since the power-up; or off, with these
--- decisions, and perhaps one more
+-- on behind this session, the decisions that the power-up found and those since; or off, with these decisions and perhaps
+-- one more, and with what was decided since the last power-up
 pub data Side : Type 0 where
-  IsOn : (session : List Exchange) (ds : List Decided) (made : ℕ) → Side
-  IsOff : (kept : List Decided) (pending : Option Decided) → Side
+  IsOn : (session : List Exchange) (found taken : List Decided) → Side
+  IsOff : (kept : List Decided) (pending : Option Decided) (since : Since) → Side
+
+-- what was decided since the last power-up
+abbrev pub since_of : Side → Since
+since_of (IsOn session found taken) = record { found = found; kept = taken; unsure = None }
+since_of (IsOff kept pending since) = since
 
 -- with what is noted beside it
 pub record At : Type 0 where
@@ -42,13 +53,13 @@ pub record At : Type 0 where
 abbrev pub at_of : Side → Notes → At
 at_of side notes = record { side = side; notes = notes }
 
--- nothing is planned, and nothing has fired
+-- nothing is planned, nothing has fired, and no cryptogram was made
 abbrev pub no_notes : Notes
-no_notes = record { plan = None; next = None; torn = None }
+no_notes = record { plan = None; next = None; torn = None; why = None }
 
 -- a card that has decided nothing yet
 abbrev pub desk_at_first : At
-desk_at_first = at_of (IsOff [] None) no_notes
+desk_at_first = at_of (IsOff [] None nothing_since) no_notes
 
 -- an answer, and what is behind it
 pub record DeskTurn : Type 0 where
@@ -75,51 +86,61 @@ abbrev pub answer_text : List ℕ → List ℕ
 answer_text answer = codes "< " ++ (hex_or_dash answer ++ 10 ∷ [])
 
 -- the plan of the next power-up
-abbrev pub plan_in : Option Tear → Option Tear → Option Tear
-plan_in plan None = plan
-plan_in plan (Some tear) = Some tear
+abbrev pub later_plan : Option Tear → Option Tear → Option Tear
+later_plan plan None = plan
+later_plan plan (Some tear) = Some tear
 
 abbrev pub plan_of : Notes → Option Tear
-plan_of notes = plan_in notes.plan notes.next
+plan_of notes = later_plan notes.plan notes.next
 
 -- behind a power-up with its plan
 abbrev pub powered_notes : Notes → Notes
-powered_notes notes = record notes { plan = plan_of notes; next = None }
+powered_notes notes = record notes { plan = plan_of notes; next = None; why = None }
 
 -- the plan has fired
 abbrev pub torn_notes : Notes → Notes
 torn_notes notes = record notes { plan = None; torn = notes.plan }
 
+-- behind a command: the last cryptogram is that of this command, where it makes one
+abbrev pub later_reason : Option Reason → Option Reason → Option Reason
+later_reason before None = before
+later_reason before (Some reason) = Some reason
+
+abbrev pub answered_notes : Notes → Option Reason → Notes
+answered_notes notes reason = record notes { why = later_reason notes.why reason }
+
 -- a power-up from off: `with_it` tells whether a decision that was cut is found
 abbrev pub desk_powered : ImageData → Bool → Notes → List Decided → Option Decided → DeskTurn
 desk_powered image with_it notes kept pending =
-    if names_commit (plan_of notes) 0 then record { answer = torn_power; after = at_of (IsOff kept pending) (torn_notes (powered_notes notes)) }
-    else record { answer = power_text image (found_of kept pending with_it); after = at_of (IsOn [] (found_of kept pending with_it) 0) (powered_notes notes) }
+    if names_commit (plan_of notes) 0 then record { answer = torn_power; after = at_of (IsOff kept pending nothing_since) (torn_notes (powered_notes notes)) }
+    else record { answer = power_text image (found_of kept pending with_it); after = at_of (IsOn [] (found_of kept pending with_it) []) (powered_notes notes) }
 
 -- a command to a card that is on, where its plan cuts none of its decisions or this one
-abbrev pub commanded : ImageData → List Exchange → List Decided → ℕ → Notes → List ℕ → Option Cut → DeskTurn
-commanded image session ds made notes command None = record {
-  answer = answer_text (card_answer image ds session command).answer;
-  after = at_of (IsOn (session ++ record { command = command; answer = (card_answer image ds session command).answer } ∷ [])
-      (ds ++ (card_answer image ds session command).new) (made + length (card_answer image ds session command).new)) notes;
+abbrev pub commanded : ImageData → List Exchange → List Decided → List Decided → Notes → List ℕ → Option Cut → DeskTurn
+commanded image session found taken notes command None = record {
+  answer = answer_text (card_answer image (found ++ taken) session command).answer;
+  after = at_of (IsOn (session ++ record { command = command; answer = (card_answer image (found ++ taken) session command).answer } ∷ []) found
+      (taken ++ (card_answer image (found ++ taken) session command).new)) (answered_notes notes (why_of image (found ++ taken) session command));
 }
-commanded image session ds made notes command (Some cut) = record {
+commanded image session found taken notes command (Some cut) = record {
   answer = torn_text;
-  after = at_of (IsOff (kept_by (fate_by notes.plan) ds cut) (pending_by (fate_by notes.plan) cut)) (torn_notes notes);
+  after = at_of (IsOff (kept_by (fate_by notes.plan) (found ++ taken) cut) (pending_by (fate_by notes.plan) cut) (cut_since (fate_by notes.plan) found taken cut))
+      (torn_notes notes);
 }
 
 -- by where the card is
 abbrev pub power_turn : ImageData → Bool → Notes → Side → DeskTurn
-power_turn image with_it notes (IsOn session ds made) = desk_powered image with_it notes ds None
-power_turn image with_it notes (IsOff kept pending) = desk_powered image with_it notes kept pending
+power_turn image with_it notes (IsOn session found taken) = desk_powered image with_it notes (found ++ taken) None
+power_turn image with_it notes (IsOff kept pending since) = desk_powered image with_it notes kept pending
 
 abbrev pub off_side : Side → Side
-off_side (IsOn session ds made) = IsOff ds None
-off_side (IsOff kept pending) = IsOff kept pending
+off_side (IsOn session found taken) = IsOff (found ++ taken) None (record { found = found; kept = taken; unsure = None })
+off_side (IsOff kept pending since) = IsOff kept pending since
 
 abbrev pub command_turn : ImageData → Notes → List ℕ → Side → DeskTurn
-command_turn image notes command (IsOn session ds made) = commanded image session ds made notes command (cut_of notes.plan made (card_answer image ds session command).new)
-command_turn image notes command (IsOff kept pending) = record { answer = other_text; after = at_of (IsOff kept pending) notes }
+command_turn image notes command (IsOn session found taken) =
+    commanded image session found taken notes command (cut_of notes.plan (length taken) (card_answer image (found ++ taken) session command).new)
+command_turn image notes command (IsOff kept pending since) = record { answer = other_text; after = at_of (IsOff kept pending since) notes }
 
 -- turned off, where it is on
 abbrev pub turned_off : At → At
@@ -131,16 +152,21 @@ pull_turn at line tear = record { answer = line ++ 10 ∷ []; after = at_of at.s
 
 -- its state; of a card that is off, as a power-up without a plan finds it, which is what the next one finds
 abbrev pub state_turn : ImageData → Bool → Notes → Side → DeskTurn
-state_turn image with_it notes (IsOn session ds made) = record { answer = state_text (totals (opening_of image) ds); after = at_of (IsOn session ds made) notes }
-state_turn image with_it notes (IsOff kept pending) = record {
+state_turn image with_it notes (IsOn session found taken) = record {
+  answer = state_text (totals (opening_of image) (found ++ taken));
+  after = at_of (IsOn session found taken) notes;
+}
+state_turn image with_it notes (IsOff kept pending since) = record {
   answer = state_text (totals (opening_of image) (found_of kept pending with_it));
-  after = at_of (IsOff (found_of kept pending with_it) None) notes;
+  after = at_of (IsOff (found_of kept pending with_it) None since) notes;
 }
 
 -- what is told, and the card is left as it is
-abbrev pub asked_turn : ImageData → Bool → At → Question → DeskTurn
-asked_turn image with_it at State = state_turn image with_it at.notes at.side
-asked_turn image with_it at TornAsked = record { answer = torn_lines at.notes.torn; after = at }
+abbrev pub question_turn : ImageData → Bool → At → Question → DeskTurn
+question_turn image with_it at State = state_turn image with_it at.notes at.side
+question_turn image with_it at TornAsked = record { answer = torn_answer at.notes.torn; after = at }
+question_turn image with_it at DecidedAsked = record { answer = decided_text (told_since (opening_of image) (since_of at.side)); after = at }
+question_turn image with_it at Why = record { answer = why_text at.notes.why; after = at }
 
 -- what the card does
 abbrev pub order_turn : ImageData → Bool → At → List ℕ → Order → DeskTurn
@@ -152,7 +178,7 @@ order_turn image with_it at line (Pull tear) = pull_turn at line tear
 -- by what the line says
 abbrev pub turn_by : ImageData → Bool → At → List ℕ → Word → DeskTurn
 turn_by image with_it at line (Does order) = order_turn image with_it at line order
-turn_by image with_it at line (Asks question) = asked_turn image with_it at question
+turn_by image with_it at line (Asks question) = question_turn image with_it at question
 turn_by image with_it at line Other = record { answer = other_text; after = at }
 
 -- the answer to a line
@@ -161,12 +187,18 @@ turn image with_it at line = turn_by image with_it at line (line_word line)
 
 -- the card in the reader is there
 abbrev pub SideStands : CardSeen → Option Tear → Side → Type 0
-SideStands icc plan (IsOn session ds made) = IccOn icc session ds plan made
-SideStands icc plan (IsOff kept pending) = IccOff icc kept pending
+SideStands icc plan (IsOn session found taken) = IccOn icc session (found ++ taken) plan (length taken)
+SideStands icc plan (IsOff kept pending since) = IccOff icc kept pending
 
-pub record DeskStands (icc : CardSeen) (notes : Notes) (at : At) : Type 0 where
+-- and what is noted of its decisions is what was decided
+pub record SideHolds (icc : CardSeen) (plan : Option Tear) (told : List Told) (side : Side) : Type 0 where
+  pub stands : SideStands icc plan side
+  pub told_is : told ≡ told_since (opening_of icc.image) (since_of side)
+
+pub record DeskStands (icc : CardSeen) (notes : Notes) (told : List Told) (at : At) : Type 0 where
   pub notes_are : at.notes ≡ notes
   pub side : SideStands icc notes.plan at.side
+  pub told_is : told ≡ told_since (opening_of icc.image) (since_of at.side)
 
 -- both are plans
 pub record ArePlans (notes : Notes) : Type 0 where
@@ -186,9 +218,9 @@ CanBePlanned (Asks question) = Unit {0}
 CanBePlanned Other = Unit {0}
 
 -- this was answered, and the card stands where the turn leaves it
-pub record IsTurn (icc : CardSeen) (notes : Notes) (text : List ℕ) (turn : DeskTurn) : Type 0 where
+pub record IsTurn (icc : CardSeen) (notes : Notes) (told : List Told) (text : List ℕ) (turn : DeskTurn) : Type 0 where
   pub answer_is : text ≡ turn.answer
-  pub stands : DeskStands icc notes turn.after
+  pub stands : DeskStands icc notes told turn.after
 
 -- lines that were answered one after the other; behind each another may follow
 pub data CardTalked (image : ImageData) (from : At) : List Turn → At → Type 0 where
@@ -201,10 +233,10 @@ abbrev pub IsCardTalk : ImageData → List Turn → Type 0
 IsCardTalk image turns = (at : At) × CardTalked image desk_at_first turns at
 
 -- a card that has answered these lines so stands in the reader
-pub record HasAnswered (icc : CardSeen) (notes : Notes) (turns : List Turn) : Type 0 where
+pub record HasAnswered (icc : CardSeen) (notes : Notes) (told : List Told) (turns : List Turn) : Type 0 where
   pub at : At
   pub talked : CardTalked icc.image desk_at_first turns at
-  pub stands : DeskStands icc notes at
+  pub stands : DeskStands icc notes told at
   pub plans : ArePlans notes
 
 -- it says nothing before the first line

@@ -38,6 +38,6 @@ is_wanted None name = true
 is_wanted (Some wanted) name = bytes_eq name wanted
 
 -- what the first card that is wanted answers by
-abbrev pub kind_in : Option (List ℕ) → List NamedCard → Option CardKind
-kind_in wanted [] = None
-kind_in wanted (card ∷ cards) = if is_wanted wanted card.name.items then Some card.kind else kind_in wanted cards
+abbrev pub wanted_kind : Option (List ℕ) → List NamedCard → Option CardKind
+wanted_kind wanted [] = None
+wanted_kind wanted (card ∷ cards) = if is_wanted wanted card.name.items then Some card.kind else wanted_kind wanted cards

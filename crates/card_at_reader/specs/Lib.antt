@@ -1,7 +1,7 @@
 pub mod Canned
 pub mod Desk
 pub mod Document
-pub mod StateText
+pub mod SincePower
 pub mod Top
 pub mod TornText
 pub mod Words

@@ -9,13 +9,13 @@ use Rattle.scenario_fields.specs.Line.{refused_line}
 use Rattle.scenario_fields.specs.declared.fault.ScenarioFault.{ScenarioFault}
 use Rattle.card_at_reader.specs.Canned.{IsCannedTalk}
 use Rattle.card_at_reader.specs.Desk.{IsCardTalk, card_opening}
-use Rattle.card_at_reader.specs.Document.{kind_in, ReadsCards}
+use Rattle.card_at_reader.specs.Document.{wanted_kind, ReadsCards}
 
 -- a document's card of this name, and what it answers by
 pub record IsServed (name : Option (List ℕ)) (bytes : List ℕ) (kind : CardKind) : Type 0 where
   pub cards : List NamedCard
   pub reading : ReadsCards bytes (Ok cards)
-  pub kind_is : kind_in name cards ≡ Some kind
+  pub kind_is : wanted_kind name cards ≡ Some kind
 
 -- a talk of a card with applications, from the day that it was made, or of one of canned answers
 abbrev pub IsTalkOf : CardKind → List Turn → Type 0
@@ -27,7 +27,7 @@ abbrev pub card_programme : Option (List ℕ) → Programme
 card_programme name = record {
   Unasked = ⊥;
   Refuses = λ bytes line. (fault : ScenarioFault) × ReadsCards bytes (Err fault) × (refused_line fault ≡ line);
-  Lacks = λ bytes. (cards : List NamedCard) × ReadsCards bytes (Ok cards) × (kind_in name cards ≡ None);
+  Lacks = λ bytes. (cards : List NamedCard) × ReadsCards bytes (Ok cards) × (wanted_kind name cards ≡ None);
   Talks = λ bytes opening turns. (kind : CardKind) × IsServed name bytes kind × (opening ≡ card_opening) × IsTalkOf kind turns;
 }
 

@@ -11,6 +11,6 @@ place_text (Within number) = codes " within " ++ decimal number
 place_text Release = codes " release"
 
 -- the tear that fired last, if one did
-abbrev pub torn_lines : Option Tear → List ℕ
-torn_lines None = codes "?" ++ newline
-torn_lines (Some tear) = codes "torn " ++ decimal tear.commit ++ place_text tear.at ++ newline
+abbrev pub torn_answer : Option Tear → List ℕ
+torn_answer None = codes "?" ++ newline
+torn_answer (Some tear) = codes "torn " ++ decimal tear.commit ++ place_text tear.at ++ newline

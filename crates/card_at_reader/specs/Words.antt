@@ -7,10 +7,10 @@ use Rattle.emv_ports.specs.declared.tear.TearAt.TheVariants.{Before, Within, Rel
 use Rattle.hex.specs.Hex.{decode_of}
 use Rattle.hex.specs.declared.error.FromHexError.{FromHexError}
 use Rattle.report_lines.specs.Parts.{split_word}
-use Rattle.line_talk.specs.Preamble.{behind}
+use Rattle.line_talk.specs.Preamble.{behind_mark}
 use Rattle.line_talk.specs.Numbers.{digits_up_to}
 use Rattle.card_at_reader.specs.declared.word.Order.TheVariants.{Power, Off, Command, Pull}
-use Rattle.card_at_reader.specs.declared.word.Question.TheVariants.{State, Torn as TornAsked}
+use Rattle.card_at_reader.specs.declared.word.Question.TheVariants.{State, Torn as TornAsked, Decided as DecidedAsked, Why}
 use Rattle.card_at_reader.specs.declared.word.Word.{Word}
 use Rattle.card_at_reader.specs.declared.word.Word.TheVariants.{Does, Asks, Other}
 
@@ -22,16 +22,16 @@ from_one (Some n) = if n == 0 then None else Some n
 abbrev pub write_in : List ℕ → Option ℕ
 write_in digits = from_one (digits_up_to 255 digits)
 
-abbrev pub if_behind : {A : Type 0} → Option (List ℕ) → (List ℕ → A) → A → A
-if_behind None found other = other
-if_behind (Some rest) found other = found rest
+abbrev pub read_behind : {A : Type 0} → Option (List ℕ) → (List ℕ → A) → A → A
+read_behind None found other = other
+read_behind (Some rest) found other = found rest
 
 -- the place in a commit
 abbrev pub tear_place_in : List ℕ → Option TearAt
 tear_place_in text =
     if bytes_eq text (codes "release") then Some Release
-    else if_behind (behind (codes "before ") text) (λ digits. option_map Before (write_in digits))
-    (if_behind (behind (codes "within ") text) (λ digits. option_map Within (write_in digits)) None)
+    else read_behind (behind_mark (codes "before ") text) (λ digits. option_map Before (write_in digits))
+    (read_behind (behind_mark (codes "within ") text) (λ digits. option_map Within (write_in digits)) None)
 
 abbrev pub tear_of_parts : Option ℕ → Option TearAt → Option Tear
 tear_of_parts None place = None
@@ -62,13 +62,15 @@ plain_word line =
     else if bytes_eq line (codes "off") then Some (Does Off)
     else if bytes_eq line (codes "state") then Some (Asks State)
     else if bytes_eq line (codes "torn") then Some (Asks TornAsked)
+    else if bytes_eq line (codes "decided") then Some (Asks DecidedAsked)
+    else if bytes_eq line (codes "why") then Some (Asks Why)
     else None
 
-abbrev pub word_or : Option Word → Word → Word
-word_or None rest = rest
-word_or (Some word) rest = word
+abbrev pub word_before : Option Word → Word → Word
+word_before None rest = rest
+word_before (Some word) rest = word
 
 -- what a line says
 unfoldable pub line_word : List ℕ → Word
 line_word line =
-    word_or (plain_word line) (if_behind (behind (codes "pull ") line) (λ text. pull_of (tear_in_line text)) (command_in (decode_of line)))
+    word_before (plain_word line) (read_behind (behind_mark (codes "pull ") line) (λ text. pull_of (tear_in_line text)) (command_in (decode_of line)))

@@ -10,36 +10,39 @@ ghost use Rattle.card_state.specs.Decisions.{Decided};
 ghost use Rattle.emv_ports.specs.Cut.{is_plan};
 ghost use Rattle.report_text.specs.Text.{all_shown};
 ghost use Rattle.card_at_reader.specs.Desk as spec;
-ghost use Rattle.card_at_reader.specs.Desk.{ArePlans, At, HasAnswered, IsCardTalk, CanBeDone, IsTurn, Side, SideStands, DeskStands, at_of, card_opening};
+ghost use Rattle.card_at_reader.specs.Desk.{ArePlans, At, HasAnswered, IsCardTalk, CanBeDone, IsTurn, Side, SideHolds, SideStands, DeskStands, at_of, card_opening};
+ghost use Rattle.card_at_reader.specs.SincePower.{Since, told_coming, told_of_cut};
 
 use crate::notes::Notes;
-use crate::state_text::tell_state;
+use crate::since::{Coming, coming_in, note_taken, note_torn_off};
 use crate::torn_text::tell_torn;
 use crate::word::{Order, Question, Word, word_of};
 use apdu_core::Answer;
 use arrayvec::ArrayVec;
-use card_app::Icc;
+use card_app::{Icc, Reason};
 use card_counters::shown_all;
 use card_files::Image;
 use card_state::CardState;
+use card_words::{Told, tell_decided, tell_reason, tell_state};
 use emv_ports::{Gone, Pages, Tear};
 use line_talk::{LineText, Onward, Party, put_line};
 use report_text::pieces::{append, hex_or_dash};
 use report_text::{Line, Text, write_line};
 use std::alloc::{AllocError, Global};
 
-/// A card in a reader, and what is noted beside it.
+/// A card in a reader, what is noted beside it, and its decisions since the power-up as they are told.
 #[derive(Drop)]
 pub struct Desk<'i, P: Pages> {
     pub icc: Icc<'i, P>,
     pub notes: Notes,
+    pub told: Vec<Told>,
 }
 
 /// A card that has decided nothing yet, off.
-pub fn put_in<'i, P: Pages>(image: &'i Image, pages: P) -> Desk<'i, P>
+pub fn put_in<'i, P: Pages>(alloc: Global, image: &'i Image, pages: P) -> Desk<'i, P>
     requires off { (P.memory pages).on ≡ false }
     requires plan { (P.memory pages).plan ≡ None }
-    ensures stands { DeskStands result.icc result.notes (spec.desk_at_first) }
+    ensures stands { DeskStands result.icc result.notes result.told.items (spec.desk_at_first) }
     ensures plans { ArePlans result.notes }
     ensures image { result.icc.image ≡ image.now }
 {
@@ -49,7 +52,9 @@ pub fn put_in<'i, P: Pages>(image: &'i Image, pages: P) -> Desk<'i, P>
             plan: None,
             next: None,
             torn: None,
+            why: None,
         },
+        told: Vec::new(alloc),
     }
 }
 
@@ -76,12 +81,13 @@ fn tell_power(image: &Image, state: &CardState, out: &mut Text)
     tell(out, &text.as_slice()[3..]);
 }
 
-/// Takes the plan of the next power-up.
+/// Takes the plan of the next power-up, behind which no cryptogram was made yet.
 fn take_plan(notes: &mut Notes)
     requires { ArePlans notes.old }
     ensures taken { notes.new ≡ spec.powered_notes notes.old }
     ensures plans { ArePlans notes.new }
 {
+    notes.why = None;
     if let Some(tear) = notes.next {
         notes.plan = Some(tear);
         notes.next = None;
@@ -98,16 +104,28 @@ fn note_torn(notes: &mut Notes)
     notes.plan = None;
 }
 
+/// Notes why the cryptogram of a command is of its kind, where it made one.
+fn note_reason(notes: &mut Notes, reason: Option<Reason>)
+    requires { ArePlans notes.old }
+    ensures noted { notes.new ≡ spec.answered_notes notes.old reason }
+    ensures plans { ArePlans notes.new }
+{
+    if reason.is_some() {
+        notes.why = reason;
+    }
+}
+
 /// Turns a card on that is off.
 fn turn_on<P: Pages>(desk: &mut Desk<'_, P>, out: &mut Text)
     requires off { IsIccOff desk.old.icc }
     requires plans { ArePlans desk.old.notes }
     ensures turn { (kept : List Decided) (pending : Option Decided) → IccOff desk.old.icc kept pending
-        → (with_it : Bool) × IsTurn desk.new.icc desk.new.notes out.new.items (spec.desk_powered desk.old.icc.image with_it desk.old.notes kept pending) }
+        → (with_it : Bool) × IsTurn desk.new.icc desk.new.notes desk.new.told.items out.new.items (spec.desk_powered desk.old.icc.image with_it desk.old.notes kept pending) }
     ensures plans { ArePlans desk.new.notes }
     ensures image { desk.new.icc.image ≡ desk.old.icc.image }
 {
     take_plan(&mut desk.notes);
+    desk.told.clear();
     match desk.icc.power_up(desk.notes.plan) {
         Ok(()) => tell_power(desk.icc.image(), desk.icc.totals(), out),
         Err(Gone) => {
@@ -120,8 +138,8 @@ fn turn_on<P: Pages>(desk: &mut Desk<'_, P>, out: &mut Text)
 /// Turns a card off, where it is on.
 fn turn_off<P: Pages>(desk: &mut Desk<'_, P>)
     requires stands { (side : Side) × SideStands desk.old.icc desk.old.notes.plan side }
-    ensures stands { (side : Side) → SideStands desk.old.icc desk.old.notes.plan side
-        → SideStands desk.new.icc desk.new.notes.plan (spec.off_side side) }
+    ensures holds { (side : Side) → SideHolds desk.old.icc desk.old.notes.plan desk.old.told.items side
+        → SideHolds desk.new.icc desk.new.notes.plan desk.new.told.items (spec.off_side side) }
     ensures off { IsIccOff desk.new.icc }
     ensures notes { desk.new.notes ≡ desk.old.notes }
     ensures image { desk.new.icc.image ≡ desk.old.icc.image }
@@ -142,39 +160,87 @@ fn tell_answer(answer: &[u8], out: &mut Text)
     append(out, b"\n");
 }
 
+/// Notes what a command that was answered has decided, and why, and tells the answer.
+fn note_answered<P: Pages>(
+    desk: &mut Desk<'_, P>,
+    coming: &Coming,
+    reason: Option<Reason>,
+    answer: &[u8],
+    out: &mut Text,
+) -> Result<(), AllocError>
+    requires plans { ArePlans desk.old.notes }
+    requires few { length answer.now ≤ 258 }
+    ensures told { OnOk result (desk.new.told.items ≡ desk.old.told.items ++ told_coming coming.now) }
+    ensures noted { OnOk result (desk.new.notes ≡ spec.answered_notes desk.old.notes reason) }
+    ensures text { OnOk result (out.new.items ≡ spec.answer_text answer.now) }
+    ensures plans { ArePlans desk.new.notes }
+    ensures icc { desk.new.icc ≡ desk.old.icc }
+{
+    note_taken(&mut desk.told, coming)?;
+    note_reason(&mut desk.notes, reason);
+    tell_answer(answer, out);
+    Ok(())
+}
+
+/// Notes what is kept of a command that the plan cut off, and tells that.
+fn note_cut_off<P: Pages>(
+    desk: &mut Desk<'_, P>,
+    coming: &Coming,
+    out: &mut Text,
+) -> Result<(), AllocError>
+    requires plans { ArePlans desk.old.notes }
+    ensures told { OnOk result (desk.new.told.items
+        ≡ desk.old.told.items ++ told_of_cut desk.old.notes.plan (length desk.old.told.items) (told_coming coming.now)) }
+    ensures noted { OnOk result (desk.new.notes ≡ spec.torn_notes desk.old.notes) }
+    ensures text { OnOk result (out.new.items ≡ spec.torn_text) }
+    ensures plans { ArePlans desk.new.notes }
+    ensures icc { desk.new.icc ≡ desk.old.icc }
+{
+    note_torn_off(&mut desk.told, desk.notes.plan, coming)?;
+    note_torn(&mut desk.notes);
+    tell(out, b"< torn\n");
+    Ok(())
+}
+
 /// Gives a command to a card that is on.
-fn command_on<P: Pages>(desk: &mut Desk<'_, P>, command: &[u8], out: &mut Text)
+fn command_on<P: Pages>(
+    desk: &mut Desk<'_, P>,
+    command: &[u8],
+    out: &mut Text,
+) -> Result<(), AllocError>
     requires on { has_power desk.old.icc ≡ true }
     requires plans { ArePlans desk.old.notes }
-    ensures turn { (session : List Exchange) (ds : List Decided) (made : ℕ) → IccOn desk.old.icc session ds desk.old.notes.plan made
-        → IsTurn desk.new.icc desk.new.notes out.new.items
-        (spec.commanded desk.old.icc.image session ds made desk.old.notes command.now
-        (cut_of desk.old.notes.plan made (card_answer desk.old.icc.image ds session command.now).new)) }
+    ensures turn { OnOk result ((session : List Exchange) (found : List Decided) (taken : List Decided)
+        → SideHolds desk.old.icc desk.old.notes.plan desk.old.told.items (spec.IsOn session found taken)
+        → IsTurn desk.new.icc desk.new.notes desk.new.told.items out.new.items
+        (spec.commanded desk.old.icc.image session found taken desk.old.notes command.now
+        (cut_of desk.old.notes.plan (length taken) (card_answer desk.old.icc.image (found ++ taken) session command.now).new))) }
     ensures plans { ArePlans desk.new.notes }
     ensures image { desk.new.icc.image ≡ desk.old.icc.image }
 {
+    let foretold = desk.icc.foretell(command);
+    let coming = coming_in(desk.icc.totals(), &foretold);
+    let reason = desk.icc.reason(command);
     let mut answer = Answer::new();
     match desk.icc.process(command, &mut answer) {
-        Ok(()) => tell_answer(answer.as_slice(), out),
-        Err(Gone) => {
-            note_torn(&mut desk.notes);
-            tell(out, b"< torn\n");
-        }
+        Ok(()) => note_answered(desk, &coming, reason, answer.as_slice(), out),
+        Err(Gone) => note_cut_off(desk, &coming, out),
     }
 }
 
 /// Gives a card a command.
-fn give<P: Pages>(desk: &mut Desk<'_, P>, command: &[u8], out: &mut Text)
+fn give<P: Pages>(desk: &mut Desk<'_, P>, command: &[u8], out: &mut Text) -> Result<(), AllocError>
     requires plans { ArePlans desk.old.notes }
-    ensures turn { (side : Side) → SideStands desk.old.icc desk.old.notes.plan side
-        → IsTurn desk.new.icc desk.new.notes out.new.items (spec.command_turn desk.old.icc.image desk.old.notes command.now side) }
+    ensures turn { OnOk result ((side : Side) → SideHolds desk.old.icc desk.old.notes.plan desk.old.told.items side
+        → IsTurn desk.new.icc desk.new.notes desk.new.told.items out.new.items (spec.command_turn desk.old.icc.image desk.old.notes command.now side)) }
     ensures plans { ArePlans desk.new.notes }
     ensures image { desk.new.icc.image ≡ desk.old.icc.image }
 {
     if !desk.icc.is_on() {
-        return tell(out, b"?\n");
+        tell(out, b"?\n");
+        return Ok(());
     }
-    command_on(desk, command, out);
+    command_on(desk, command, out)
 }
 
 /// Plans a tear for the next power-up, and says the line again.
@@ -182,8 +248,8 @@ fn plan_tear<P: Pages>(desk: &mut Desk<'_, P>, tear: Tear, line: &[u8], out: &mu
     requires plans { ArePlans desk.old.notes }
     requires tear { IsTrue (is_plan (Some tear)) }
     requires short { length line.now ≤ 8191 }
-    ensures turn { (side : Side) → SideStands desk.old.icc desk.old.notes.plan side
-        → IsTurn desk.new.icc desk.new.notes out.new.items (spec.pull_turn (at_of side desk.old.notes) line.now tear) }
+    ensures turn { (side : Side) → SideHolds desk.old.icc desk.old.notes.plan desk.old.told.items side
+        → IsTurn desk.new.icc desk.new.notes desk.new.told.items out.new.items (spec.pull_turn (at_of side desk.old.notes) line.now tear) }
     ensures plans { ArePlans desk.new.notes }
     ensures image { desk.new.icc.image ≡ desk.old.icc.image }
 {
@@ -196,8 +262,8 @@ fn plan_tear<P: Pages>(desk: &mut Desk<'_, P>, tear: Tear, line: &[u8], out: &mu
 fn power<P: Pages>(desk: &mut Desk<'_, P>, out: &mut Text)
     requires stands { (side : Side) × SideStands desk.old.icc desk.old.notes.plan side }
     requires plans { ArePlans desk.old.notes }
-    ensures turn { (side : Side) → SideStands desk.old.icc desk.old.notes.plan side
-        → (with_it : Bool) × IsTurn desk.new.icc desk.new.notes out.new.items (spec.power_turn desk.old.icc.image with_it desk.old.notes side) }
+    ensures turn { (side : Side) → SideHolds desk.old.icc desk.old.notes.plan desk.old.told.items side
+        → (with_it : Bool) × IsTurn desk.new.icc desk.new.notes desk.new.told.items out.new.items (spec.power_turn desk.old.icc.image with_it desk.old.notes side) }
     ensures plans { ArePlans desk.new.notes }
     ensures image { desk.new.icc.image ≡ desk.old.icc.image }
 {
@@ -206,14 +272,19 @@ fn power<P: Pages>(desk: &mut Desk<'_, P>, out: &mut Text)
 }
 
 /// Has the card do what a line says.
-fn obey<P: Pages>(desk: &mut Desk<'_, P>, order: &Order, line: &[u8], out: &mut Text)
+fn obey<P: Pages>(
+    desk: &mut Desk<'_, P>,
+    order: &Order,
+    line: &[u8],
+    out: &mut Text,
+) -> Result<(), AllocError>
     requires stands { (side : Side) × SideStands desk.old.icc desk.old.notes.plan side }
     requires plans { ArePlans desk.old.notes }
     requires tear { CanBeDone order.now }
     requires short { length line.now ≤ 8191 }
-    ensures turn { (side : Side) → SideStands desk.old.icc desk.old.notes.plan side
-        → (with_it : Bool) × IsTurn desk.new.icc desk.new.notes out.new.items
-        (spec.order_turn desk.old.icc.image with_it (at_of side desk.old.notes) line.now order.now) }
+    ensures turn { OnOk result ((side : Side) → SideHolds desk.old.icc desk.old.notes.plan desk.old.told.items side
+        → (with_it : Bool) × IsTurn desk.new.icc desk.new.notes desk.new.told.items out.new.items
+        (spec.order_turn desk.old.icc.image with_it (at_of side desk.old.notes) line.now order.now)) }
     ensures plans { ArePlans desk.new.notes }
     ensures image { desk.new.icc.image ≡ desk.old.icc.image }
 {
@@ -223,16 +294,19 @@ fn obey<P: Pages>(desk: &mut Desk<'_, P>, order: &Order, line: &[u8], out: &mut 
             turn_off(desk);
             tell(out, b"off\n");
         }
-        Order::Command(command) => give(desk, command.as_slice(), out),
+        Order::Command(command) => return give(desk, command.as_slice(), out),
         Order::Pull(tear) => plan_tear(desk, *tear, line, out),
     }
+    Ok(())
 }
 
 /// Tells the state of a card that is off, as a power-up without a plan finds it. What it finds is what the next one finds.
 fn tell_found<P: Pages>(desk: &mut Desk<'_, P>, text: &mut Vec<u8>) -> Result<(), AllocError>
     requires off { IsIccOff desk.old.icc }
-    ensures turn { OnOk result ((kept : List Decided) (pending : Option Decided) → IccOff desk.old.icc kept pending
-        → (with_it : Bool) × IsTurn desk.new.icc desk.new.notes text.new.items (spec.state_turn desk.old.icc.image with_it desk.old.notes (spec.IsOff kept pending))) }
+    ensures turn { OnOk result ((kept : List Decided) (pending : Option Decided) (since : Since)
+        → SideHolds desk.old.icc desk.old.notes.plan desk.old.told.items (spec.IsOff kept pending since)
+        → (with_it : Bool) × IsTurn desk.new.icc desk.new.notes desk.new.told.items text.new.items
+        (spec.state_turn desk.old.icc.image with_it desk.old.notes (spec.IsOff kept pending since))) }
     ensures notes { desk.new.notes ≡ desk.old.notes }
     ensures image { desk.new.icc.image ≡ desk.old.icc.image }
 {
@@ -249,8 +323,8 @@ fn tell_found<P: Pages>(desk: &mut Desk<'_, P>, text: &mut Vec<u8>) -> Result<()
 /// Tells the state of a card.
 fn tell_card<P: Pages>(desk: &mut Desk<'_, P>, text: &mut Vec<u8>) -> Result<(), AllocError>
     requires stands { (side : Side) × SideStands desk.old.icc desk.old.notes.plan side }
-    ensures turn { OnOk result ((side : Side) → SideStands desk.old.icc desk.old.notes.plan side
-        → (with_it : Bool) × IsTurn desk.new.icc desk.new.notes text.new.items (spec.state_turn desk.old.icc.image with_it desk.old.notes side)) }
+    ensures turn { OnOk result ((side : Side) → SideHolds desk.old.icc desk.old.notes.plan desk.old.told.items side
+        → (with_it : Bool) × IsTurn desk.new.icc desk.new.notes desk.new.told.items text.new.items (spec.state_turn desk.old.icc.image with_it desk.old.notes side)) }
     ensures notes { desk.new.notes ≡ desk.old.notes }
     ensures image { desk.new.icc.image ≡ desk.old.icc.image }
 {
@@ -267,9 +341,9 @@ fn tell_asked<P: Pages>(
     text: &mut Vec<u8>,
 ) -> Result<(), AllocError>
     requires stands { (side : Side) × SideStands desk.old.icc desk.old.notes.plan side }
-    ensures turn { OnOk result ((side : Side) → SideStands desk.old.icc desk.old.notes.plan side
-        → (with_it : Bool) × IsTurn desk.new.icc desk.new.notes text.new.items
-        (spec.asked_turn desk.old.icc.image with_it (at_of side desk.old.notes) question)) }
+    ensures turn { OnOk result ((side : Side) → SideHolds desk.old.icc desk.old.notes.plan desk.old.told.items side
+        → (with_it : Bool) × IsTurn desk.new.icc desk.new.notes desk.new.told.items text.new.items
+        (spec.question_turn desk.old.icc.image with_it (at_of side desk.old.notes) question)) }
     ensures notes { desk.new.notes ≡ desk.old.notes }
     ensures image { desk.new.icc.image ≡ desk.old.icc.image }
 {
@@ -278,6 +352,12 @@ fn tell_asked<P: Pages>(
         Question::Torn => {
             let mut line = LineText::new();
             tell_torn(&mut line, desk.notes.torn);
+            put_line(text, line.as_slice())
+        }
+        Question::Decided => tell_decided(text, desk.told.as_slice()),
+        Question::Why => {
+            let mut line = LineText::new();
+            tell_reason(&mut line, &desk.notes.why);
             put_line(text, line.as_slice())
         }
     }
@@ -294,8 +374,8 @@ fn answer_word<P: Pages>(
     requires plans { ArePlans desk.old.notes }
     requires tear { spec.CanBePlanned word.now }
     requires short { length line.now ≤ 8191 }
-    ensures turn { OnOk result ((side : Side) → SideStands desk.old.icc desk.old.notes.plan side
-        → (with_it : Bool) × IsTurn desk.new.icc desk.new.notes text.new.items
+    ensures turn { OnOk result ((side : Side) → SideHolds desk.old.icc desk.old.notes.plan desk.old.told.items side
+        → (with_it : Bool) × IsTurn desk.new.icc desk.new.notes desk.new.told.items text.new.items
         (spec.turn_by desk.old.icc.image with_it (at_of side desk.old.notes) line.now word.now)) }
     ensures plans { ArePlans desk.new.notes }
     ensures image { desk.new.icc.image ≡ desk.old.icc.image }
@@ -303,7 +383,7 @@ fn answer_word<P: Pages>(
     match word {
         Word::Does(order) => {
             let mut told = LineText::new();
-            obey(desk, order, line, &mut told);
+            obey(desk, order, line, &mut told)?;
             put_line(text, told.as_slice())
         }
         Word::Asks(question) => tell_asked(desk, *question, text),
@@ -318,11 +398,11 @@ pub fn answer_line<P: Pages>(
     line: &[u8],
     text: &mut Vec<u8>,
 ) -> Result<(), AllocError>
-    requires stands { (at : At) × DeskStands desk.old.icc desk.old.notes at }
+    requires stands { (at : At) × DeskStands desk.old.icc desk.old.notes desk.old.told.items at }
     requires plans { ArePlans desk.old.notes }
     requires short { length line.now ≤ 8191 }
-    ensures turn { OnOk result ((at : At) → DeskStands desk.old.icc desk.old.notes at
-        → (with_it : Bool) × IsTurn desk.new.icc desk.new.notes text.new.items (spec.turn desk.old.icc.image with_it at line.now)) }
+    ensures turn { OnOk result ((at : At) → DeskStands desk.old.icc desk.old.notes desk.old.told.items at
+        → (with_it : Bool) × IsTurn desk.new.icc desk.new.notes desk.new.told.items text.new.items (spec.turn desk.old.icc.image with_it at line.now)) }
     ensures plans { ArePlans desk.new.notes }
     ensures image { desk.new.icc.image ≡ desk.old.icc.image }
 {
@@ -333,7 +413,7 @@ pub fn answer_line<P: Pages>(
 impl<P: Pages> Party for Desk<'_, P> {
     ghost opening = { λ desk. card_opening };
 
-    ghost stands = { λ desk turns. HasAnswered desk.icc desk.notes turns };
+    ghost stands = { λ desk turns. HasAnswered desk.icc desk.notes desk.told.items turns };
 
     ghost talks = { λ desk turns. IsCardTalk desk.icc.image turns };
 

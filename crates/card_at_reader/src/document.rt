@@ -6,7 +6,7 @@ ghost use Rattle.scenario.specs.Scenario.{top_keys};
 ghost use Rattle.scenario_fields.specs.Fault.{Gives};
 ghost use Rattle.scenario_fields.specs.Fields.{only};
 ghost use Rattle.scenario_fields.specs.TablePaths.{path};
-ghost use Rattle.card_at_reader.specs.Document.{cards_of, kind_in, ReadsCards};
+ghost use Rattle.card_at_reader.specs.Document.{cards_of, wanted_kind, ReadsCards};
 ghost use Rattle.card_at_reader.specs.Document as spec;
 ghost use Rattle.std.specs.Result.{result_map_both};
 
@@ -70,7 +70,7 @@ fn is_wanted(name: Option<&[u8]>, card: &NamedCard) -> bool
 
 /// What the first card that is wanted answers by.
 pub fn kind_of<'a>(cards: &'a [NamedCard], name: Option<&[u8]>) -> Option<&'a CardKind>
-    ensures { option_map (λ kind. kind.now) result ≡ kind_in (option_map (λ name. name.now) name.entry) cards.now }
+    ensures { option_map (λ kind. kind.now) result ≡ wanted_kind (option_map (λ name. name.now) name.entry) cards.now }
 {
     for card in cards {
         if is_wanted(name, card) {

@@ -6,7 +6,7 @@ mod canned;
 mod desk;
 mod document;
 mod notes;
-mod state_text;
+mod since;
 #[cfg(test)]
 mod tests;
 mod top;
@@ -14,9 +14,9 @@ mod torn_text;
 mod word;
 
 use emv_ports::{Held, MemoryPages, StdinSource, StdoutSink};
-use line_talk::Status;
+use line_talk::{Status, given_words};
+use std::io;
 use std::process::ExitCode;
-use std::{env, io};
 use top::run;
 
 /// Answers the lines for the card that the command line names, or for the first one. Where there is no memory for the
@@ -25,25 +25,11 @@ fn main(rt: HostRuntime) -> ExitCode {
     let Ok(pages) = Held::new(rt.alloc(), MemoryPages::blank()) else {
         return ExitCode::from(Status::OutOfMemory.code());
     };
+    let words = match given_words(&rt) {
+        Ok(words) => words,
+        Err(status) => return ExitCode::from(status.code()),
+    };
     let mut source = StdinSource::new(rt.reader());
     let mut sink = StdoutSink::new(io::writer(&rt));
-    let mut words = Vec::new(rt.alloc());
-    match env::args(&rt) {
-        Ok(given) => {
-            for word in given.skip(1) {
-                if words.push(word).is_err() {
-                    return ExitCode::from(Status::OutOfMemory.code());
-                }
-            }
-        }
-        Err(error) => {
-            let status = if error.kind() == io::ErrorKind::OutOfMemory {
-                Status::OutOfMemory
-            } else {
-                Status::Unserved
-            };
-            return ExitCode::from(status.code());
-        }
-    }
     ExitCode::from(run(rt.alloc(), &words, pages, &mut source, &mut sink).code())
 }

@@ -1,5 +1,6 @@
 //! What is noted beside a card in a reader.
 
+use card_app::Reason;
 use emv_ports::Tear;
 
 /// What is noted beside a card in a reader, and isn't on it.
@@ -11,4 +12,6 @@ pub struct Notes {
     pub next: Option<Tear>,
     /// The one that fired last.
     pub torn: Option<Tear>,
+    /// Why the last cryptogram since the power-up is of its kind.
+    pub why: Option<Reason>,
 }

@@ -29,7 +29,7 @@ fn serve_card<P: Pages, S: Source, K: Sink>(
     ensures source { TalkSourceCount (S.faults source.old) (S.faults source.new) result }
     ensures sink { TalkSinkCount (K.faults sink.old) (K.faults sink.new) result }
 {
-    let mut desk = put_in(image, pages);
+    let mut desk = put_in(alloc, image, pages);
     converse(alloc, &mut desk, source, sink)
 }
 

@@ -28,7 +28,7 @@ fn place(out: &mut Text, at: TearAt)
 
 /// The line of the tear that fired last, if one did, in place of what the text held.
 pub(crate) fn tell_torn(out: &mut Text, torn: Option<Tear>)
-    ensures { out.new.items ≡ spec.torn_lines torn }
+    ensures { out.new.items ≡ spec.torn_answer torn }
 {
     out.clear();
     match torn {

@@ -36,6 +36,10 @@ pub enum Question {
     State,
     /// The plan that fired last.
     Torn,
+    /// What it has decided since its power-up.
+    Decided,
+    /// Why the last cryptogram since its power-up is of its kind.
+    Why,
 }
 
 /// What a line says.
@@ -150,6 +154,12 @@ fn plain_word(line: &[u8]) -> Option<Word>
     }
     if line == b"torn".as_slice() {
         return Some(Word::Asks(Question::Torn));
+    }
+    if line == b"decided".as_slice() {
+        return Some(Word::Asks(Question::Decided));
+    }
+    if line == b"why".as_slice() {
+        return Some(Word::Asks(Question::Why));
     }
     None
 }

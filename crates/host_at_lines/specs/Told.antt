@@ -2,16 +2,13 @@
 use Rattle.std.specs.Prelude.{ℕ, ℤ, Bool, true, false, List, [], ◌∷◌, ◌++◌, length, codes, decimal, Option, Some, None}
 use Rattle.std.specs.List.{flat_map}
 use Rattle.std.specs.Fmt.{signed_decimal}
-use Rattle.ber_tlv.specs.Written.{tag_bytes}
-use Rattle.auth_message.specs.declared.fault.MessageFault.{MessageFault}
-use Rattle.auth_message.specs.declared.fault.MessageFault.TheVariants.{Coding, Missing, Value}
+use Rattle.fault_words.specs.FaultWords.{iso_fault_words, message_fault_words}
 use Rattle.issuer_host.specs.Account.{AccountData}
 use Rattle.issuer_host.specs.Balance.{balance_in}
 use Rattle.issuer_host.specs.Books.{Books}
 use Rattle.issuer_host.specs.declared.reason.Reason.{Reason}
 use Rattle.issuer_host.specs.declared.reason.Reason.TheVariants.{Unreadable, Repeat, OtherBytes, UnknownAccount, WrongCryptogram, Blocked, OtherCurrency, Reversed, Presented, Expired, WrongPin, AboveBalance, Approved, Settled, Released, NothingHeld}
 use Rattle.iso_message.specs.declared.fault.IsoFault.{IsoFault}
-use Rattle.iso_message.specs.declared.fault.IsoFault.TheVariants.{Short, WrongType, Bitmap, Field, Rest}
 use Rattle.report_text.specs.Pieces.{digits_text, hex_or_dash}
 use Rattle.host_at_lines.specs.declared.because.Because.{Because}
 
@@ -36,21 +33,8 @@ accounts_text accounts books =
     count_text (length accounts) ++ flat_map (λ account. balance_text account.pan (balance_in accounts books account.pan)) accounts
 
 -- why bytes can't be read in the style of ISO 8583
-abbrev pub iso_fault_words : IsoFault → List ℕ
-iso_fault_words (Short place) = codes "short " ++ decimal place
-iso_fault_words WrongType = codes "type"
-iso_fault_words Bitmap = codes "bitmap"
-iso_fault_words (Field number) = codes "field " ++ decimal number
-iso_fault_words (Rest place) = codes "rest " ++ decimal place
-
 abbrev pub unread_text : IsoFault → List ℕ
 unread_text fault = codes "? " ++ (iso_fault_words fault ++ 10 ∷ [])
-
--- why bytes are no message
-abbrev pub fault_words : MessageFault → List ℕ
-fault_words (Coding place) = codes "unreadable coding " ++ decimal place
-fault_words (Missing tag) = codes "unreadable missing " ++ hex_or_dash (tag_bytes tag.0)
-fault_words (Value tag) = codes "unreadable value " ++ hex_or_dash (tag_bytes tag.0)
 
 -- a number behind a blank, where there is one
 abbrev pub blank_number : Option ℕ → List ℕ
@@ -65,7 +49,7 @@ settled_reason_words amount held = codes "settled " ++ (decimal amount ++ blank_
 
 -- a reason and its numbers, with the number of the earlier message that it speaks of
 abbrev pub host_reason_words : Option ℕ → Reason → List ℕ
-host_reason_words earlier (Unreadable fault) = fault_words fault
+host_reason_words earlier (Unreadable fault) = codes "unreadable " ++ message_fault_words fault
 host_reason_words earlier Repeat = codes "repeat" ++ blank_number earlier
 host_reason_words earlier OtherBytes = codes "other-bytes" ++ blank_number earlier
 host_reason_words earlier UnknownAccount = codes "unknown-account"

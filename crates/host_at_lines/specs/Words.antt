@@ -4,7 +4,7 @@ use Rattle.std.specs.Str.{bytes_eq}
 use Rattle.hex.specs.Hex.{decode_of}
 use Rattle.hex.specs.declared.error.FromHexError.{FromHexError}
 use Rattle.iso_message.specs.Text.{are_numerals}
-use Rattle.line_talk.specs.Preamble.{behind}
+use Rattle.line_talk.specs.Preamble.{behind_mark}
 use Rattle.host_at_lines.specs.declared.word.Word.{Word}
 use Rattle.host_at_lines.specs.declared.word.Word.TheVariants.{Message, Balance, Accounts, Because, Other}
 
@@ -33,9 +33,9 @@ unfoldable pub host_word : List ℕ → Word
 host_word line =
     if bytes_eq line (codes "accounts") then Accounts
     else if bytes_eq line (codes "because") then Because
-    else word_behind (behind (codes "balance ") line) balance_word
-    (word_behind (behind (codes "iso > ") line) (λ text. message_word true (decode_of text))
-    (word_behind (behind (codes "> ") line) (λ text. message_word false (decode_of text)) Other))
+    else word_behind (behind_mark (codes "balance ") line) balance_word
+    (word_behind (behind_mark (codes "iso > ") line) (λ text. message_word true (decode_of text))
+    (word_behind (behind_mark (codes "> ") line) (λ text. message_word false (decode_of text)) Other))
 
 -- a message that is asked for has at most 2,048 bytes
 abbrev pub IsShort : Word → Type 0

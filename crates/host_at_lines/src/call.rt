@@ -45,11 +45,11 @@ fn call_in(message: &Incoming<'_>) -> Call
     match message {
         Incoming::Request(fields) => Call {
             kind: CallKind::Request,
-            key: key_of(&fields.named.pan, fields.named.t5f34, fields.paid.t9f36),
+            key: key_of(&fields.pan, fields.t5f34, fields.t9f36),
         },
         Incoming::Present(fields) => Call {
             kind: CallKind::Presentment,
-            key: key_of(&fields.named.pan, fields.named.t5f34, fields.paid.t9f36),
+            key: key_of(&fields.pan, fields.t5f34, fields.t9f36),
         },
         Incoming::Reverse(fields) => Call {
             kind: CallKind::Reversal,

@@ -2,14 +2,14 @@
 ghost use Rattle.std.specs.Prelude.{◌≡◌, ◌+◌, ◌*◌, ◌≤◌, ◌++◌, ◌∷◌, [], length, codes, decimal};
 ghost use Rattle.std.specs.Fmt.{signed_decimal};
 ghost use Rattle.arrayvec.specs.ArrayVec.{array_vec_len};
-ghost use Rattle.ber_tlv.specs.Written.{tag_bytes};
+ghost use Rattle.fault_words.specs.FaultWords.{message_fault_words};
 ghost use Rattle.report_text.specs.Pieces.{hex_or_dash as hex_text};
 ghost use Rattle.host_at_lines.specs.Told as spec;
 
 use crate::because::Because;
 use auth_message::MessageFault;
-use ber_tlv::{Tag, tag_bytes};
 use emv_dict::Digits;
+use fault_words::{put_iso_fault, put_message_fault};
 use iso_message::IsoFault;
 use issuer_host::Reason;
 use line_talk::LineText;
@@ -73,21 +73,6 @@ fn put_place(word: &[u8], place: u64, out: &mut LineText)
     number(out, place);
 }
 
-/// The words of a fault of the style of ISO 8583.
-fn put_iso_fault(fault: IsoFault, out: &mut LineText)
-    requires room { array_vec_len out.old ≤ 100 }
-    ensures text { out.new.items ≡ out.old.items ++ spec.iso_fault_words fault }
-    ensures len { array_vec_len out.new ≤ array_vec_len out.old + 80 }
-{
-    match fault {
-        IsoFault::Short(place) => put_place(b"short ", place as u64, out),
-        IsoFault::WrongType => append(out, b"type"),
-        IsoFault::Bitmap => append(out, b"bitmap"),
-        IsoFault::Field(field) => put_place(b"field ", u64::from(field), out),
-        IsoFault::Rest(place) => put_place(b"rest ", place as u64, out),
-    }
-}
-
 /// The line of bytes that can't be read in the style of ISO 8583.
 pub fn tell_unread(fault: IsoFault, out: &mut LineText)
     ensures { out.new.items ≡ spec.unread_text fault }
@@ -98,28 +83,14 @@ pub fn tell_unread(fault: IsoFault, out: &mut LineText)
     append(out, b"\n");
 }
 
-/// A word with a tag behind it.
-fn put_tag(word: &[u8], tag: Tag, out: &mut LineText)
-    requires word { length word.now ≤ 40 }
-    requires room { array_vec_len out.old ≤ 100 }
-    ensures text { out.new.items ≡ out.old.items ++ (word.now ++ hex_text (tag_bytes tag.0)) }
-    ensures len { array_vec_len out.new ≤ array_vec_len out.old + 80 }
-{
-    append(out, word);
-    hex_or_dash(out, &tag_bytes(tag));
-}
-
 /// The words of the fault of bytes that are no message.
 fn put_fault(fault: MessageFault, out: &mut LineText)
     requires room { array_vec_len out.old ≤ 100 }
-    ensures text { out.new.items ≡ out.old.items ++ spec.fault_words fault }
+    ensures text { out.new.items ≡ out.old.items ++ (codes "unreadable " ++ message_fault_words fault) }
     ensures len { array_vec_len out.new ≤ array_vec_len out.old + 80 }
 {
-    match fault {
-        MessageFault::Coding(place) => put_place(b"unreadable coding ", place as u64, out),
-        MessageFault::Missing(tag) => put_tag(b"unreadable missing ", tag, out),
-        MessageFault::Value(tag) => put_tag(b"unreadable value ", tag, out),
-    }
+    append(out, b"unreadable ");
+    put_message_fault(fault, out);
 }
 
 /// A number behind a blank, where there is one.

@@ -8,8 +8,8 @@ use Rattle.line_talk.specs.declared.document.Preamble.{Preamble}
 use Rattle.line_talk.specs.declared.document.Preamble.TheVariants.{Document, Other}
 
 -- what stands behind a mark
-abbrev pub behind : List ℕ → List ℕ → Option (List ℕ)
-behind mark text = (if bytes_eq (take (length mark) text) mark then Some (drop (length mark) text) else None)
+abbrev pub behind_mark : List ℕ → List ℕ → Option (List ℕ)
+behind_mark mark text = (if bytes_eq (take (length mark) text) mark then Some (drop (length mark) text) else None)
 
 abbrev pub number_behind : Option (List ℕ) → Option ℕ
 number_behind None = None
@@ -17,7 +17,7 @@ number_behind (Some digits) = digits_up_to 4194304 digits
 
 -- the length that a line says
 unfoldable pub length_in : List ℕ → Option ℕ
-length_in line = number_behind (behind (codes "document ") line)
+length_in line = number_behind (behind_mark (codes "document ") line)
 
 -- a line that says the document's length, and the document
 pub record IsDocument (old new : Option (List ℕ)) (bytes : List ℕ) : Type 0 where

@@ -9,6 +9,7 @@ pub mod number;
 pub mod party;
 pub mod status;
 pub mod talk;
+pub mod words;
 
 pub use document::{Preamble, read_preamble};
 pub use line::{Came, LineText, read_line};
@@ -16,3 +17,4 @@ pub use number::number_of;
 pub use party::{Onward, Party, put_line};
 pub use status::Status;
 pub use talk::{answer_other, converse, refuse, write_last};
+pub use words::given_words;

@@ -1,6 +1,5 @@
 -- Steps, causes and endings are read from the front of a text.
-use Rattle.std.proofs.Common.{◌≡◌, ℕ, ◌<◌, Bool, true, false, List, [], ◌∷◌, ◌++◌, refl, ap, append_assoc}
-use Rattle.ber_tlv.specs.declared.tag.Tag.{Tag}
+use Rattle.std.proofs.Common.{◌≡◌, ℕ, ◌<◌, Bool, true, false, List, [], ◌∷◌, ◌++◌, refl, append_assoc}
 use Rattle.emv_dict.specs.declared.ending.Step.{Step}
 use Rattle.emv_dict.specs.declared.ending.Step.TheVariants as step
 use Rattle.emv_dict.specs.declared.ending.Cause.{Cause}
@@ -8,11 +7,9 @@ use Rattle.emv_dict.specs.declared.ending.Cause.TheVariants as cause
 use Rattle.emv_dict.specs.declared.ending.Ending.{Ending}
 use Rattle.emv_dict.specs.declared.ending.Ending.TheVariants as ending
 use Rattle.report_text.specs.Words.{step_word, cause_text, side_word, ending_text}
-use Rattle.line_texts.specs.LineTexts.{IsCauseTold, IsEndingTold}
+use Rattle.report_text.specs.Told.{IsCauseTold, IsEndingTold}
+use Rattle.line_texts.specs.LineTexts.{SameCause, SameEnding}
 use Rattle.line_texts.proofs.Fronts.{behind, number, hex, tag, two, apart, one_byte, first_same}
-
-abbrev tag_of : ℕ → Tag
-tag_of n = record { 0 = n }
 
 step_front : (a b : Step) {r s : List ℕ} → step_word a ++ r ≡ step_word b ++ s → (a ≡ b) × (r ≡ s)
 unfolding step_word
@@ -33,54 +30,32 @@ side_front true true e = (refl, behind 6 e)
 side_front false false e = (refl, behind 7 e)
 side_front a b e = absurd (apart e refl)
 
-cause_front : (a b : Cause) (c d : ℕ) (r s : List ℕ) → cause_text a ++ c ∷ r ≡ cause_text b ++ d ∷ s → IsCauseTold a → IsCauseTold b → c < 48 → d < 48 → (a ≡ b) × (c ∷ r ≡ d ∷ s)
-unfolding cause_text IsCauseTold
-cause_front cause.NoCandidate cause.NoCandidate c d r s e ta tb hc hd = (refl, behind 12 e)
-cause_front cause.CardBlocked cause.CardBlocked c d r s e ta tb hc hd = (refl, behind 12 e)
-cause_front cause.Answer cause.Answer c d r s e ta tb hc hd = (refl, behind 6 e)
-cause_front (cause.Status m) (cause.Status n) c d r s e ta tb hc hd =
-    let same = two m n c d r s (behind 7 e) ta tb hc hd in
-    (ap cause.Status same.0, same.1)
-cause_front (cause.Coding m) (cause.Coding n) c d r s e ta tb hc hd =
-    let same = number m n c d r s (behind 7 e) ta tb hc hd in
-    (ap cause.Coding same.0, same.1)
-cause_front (cause.Repeated m) (cause.Repeated n) c d r s e ta tb hc hd =
-    let same = tag m.0 n.0 c d r s (behind 9 e) ta tb hc hd in
-    (ap (λ (t : ℕ). cause.Repeated (tag_of t)) same.0, same.1)
-cause_front (cause.Missing m) (cause.Missing n) c d r s e ta tb hc hd =
-    let same = tag m.0 n.0 c d r s (behind 8 e) ta tb hc hd in
-    (ap (λ (t : ℕ). cause.Missing (tag_of t)) same.0, same.1)
-cause_front (cause.Value m) (cause.Value n) c d r s e ta tb hc hd =
-    let same = tag m.0 n.0 c d r s (behind 6 e) ta tb hc hd in
-    (ap (λ (t : ℕ). cause.Value (tag_of t)) same.0, same.1)
-cause_front (cause.Afl m) (cause.Afl n) c d r s e ta tb hc hd =
-    let same = number m n c d r s (behind 4 e) ta tb hc hd in
-    (ap cause.Afl same.0, same.1)
-cause_front (cause.Dol m) (cause.Dol n) c d r s e ta tb hc hd =
-    let same = tag m.0 n.0 c d r s (behind 4 e) ta tb hc hd in
-    (ap (λ (t : ℕ). cause.Dol (tag_of t)) same.0, same.1)
-cause_front cause.TooMuch cause.TooMuch c d r s e ta tb hc hd = (refl, behind 8 e)
+cause_front : (a b : Cause) (c d : ℕ) (r s : List ℕ) → cause_text a ++ c ∷ r ≡ cause_text b ++ d ∷ s → IsCauseTold a → IsCauseTold b → c < 48 → d < 48 → SameCause a b × (c ∷ r ≡ d ∷ s)
+unfolding cause_text SameCause
+cause_front cause.NoCandidate cause.NoCandidate c d r s e ta tb hc hd = (tt, behind 12 e)
+cause_front cause.CardBlocked cause.CardBlocked c d r s e ta tb hc hd = (tt, behind 12 e)
+cause_front cause.Answer cause.Answer c d r s e ta tb hc hd = (tt, behind 6 e)
+cause_front (cause.Status m) (cause.Status n) c d r s e ta tb hc hd = two m n c d r s (behind 7 e) hc hd
+cause_front (cause.Coding m) (cause.Coding n) c d r s e ta tb hc hd = number m n c d r s (behind 7 e) hc hd
+cause_front (cause.Repeated m) (cause.Repeated n) c d r s e ta tb hc hd = tag m.0 n.0 c d r s (behind 9 e) hc hd
+cause_front (cause.Missing m) (cause.Missing n) c d r s e ta tb hc hd = tag m.0 n.0 c d r s (behind 8 e) hc hd
+cause_front (cause.Value m) (cause.Value n) c d r s e ta tb hc hd = tag m.0 n.0 c d r s (behind 6 e) hc hd
+cause_front (cause.Afl m) (cause.Afl n) c d r s e ta tb hc hd = number m n c d r s (behind 4 e) hc hd
+cause_front (cause.Dol m) (cause.Dol n) c d r s e ta tb hc hd = tag m.0 n.0 c d r s (behind 4 e) hc hd
+cause_front cause.TooMuch cause.TooMuch c d r s e ta tb hc hd = (tt, behind 8 e)
 cause_front (cause.Kind m) (cause.Kind n) c d r s e ta tb hc hd =
     let same = hex (m ∷ []) (n ∷ []) c d r s (behind 5 e) (one_byte m ta) (one_byte n tb) hc hd in
-    (ap cause.Kind (first_same m n [] [] same.0), same.1)
+    (first_same m n [] [] same.0, same.1)
 cause_front a b c d r s e ta tb hc hd = absurd (apart e refl)
 
-pub ending_front : (a b : Ending) (c d : ℕ) (r s : List ℕ) → ending_text a ++ c ∷ r ≡ ending_text b ++ d ∷ s → IsEndingTold a → IsEndingTold b → c < 48 → d < 48 → (a ≡ b) × (c ∷ r ≡ d ∷ s)
-unfolding ending_text IsEndingTold
-ending_front (ending.Approved m) (ending.Approved n) c d r s e ta tb hc hd =
-    let same = side_front m n (behind 9 e) in
-    (ap ending.Approved same.0, same.1)
-ending_front (ending.Declined m) (ending.Declined n) c d r s e ta tb hc hd =
-    let same = side_front m n (behind 9 e) in
-    (ap ending.Declined same.0, same.1)
+pub ending_front : (a b : Ending) (c d : ℕ) (r s : List ℕ) → ending_text a ++ c ∷ r ≡ ending_text b ++ d ∷ s → IsEndingTold a → IsEndingTold b → c < 48 → d < 48 → SameEnding a b × (c ∷ r ≡ d ∷ s)
+unfolding ending_text SameEnding
+ending_front (ending.Approved m) (ending.Approved n) c d r s e ta tb hc hd = side_front m n (behind 9 e)
+ending_front (ending.Declined m) (ending.Declined n) c d r s e ta tb hc hd = side_front m n (behind 9 e)
 ending_front (ending.Terminated at why) (ending.Terminated by how) c d r s e ta tb hc hd =
     let one : step_word at ++ 32 ∷ (cause_text why ++ c ∷ r) ≡ step_word by ++ 32 ∷ (cause_text how ++ d ∷ s) = simp append_assoc at (behind 11 e) in
     let steps = step_front at by one in
     let causes = cause_front why how c d r s (behind 1 steps.1) ta tb hc hd in
-    let here : at ≡ by = steps.0 in
-    let there : why ≡ how = causes.0 in
-    (cc, causes.1)
-ending_front (ending.CutOff m) (ending.CutOff n) c d r s e ta tb hc hd =
-    let same = step_front m n (behind 4 e) in
-    (ap ending.CutOff same.0, same.1)
+    ((steps.0, causes.0), causes.1)
+ending_front (ending.CutOff m) (ending.CutOff n) c d r s e ta tb hc hd = step_front m n (behind 4 e)
 ending_front a b c d r s e ta tb hc hd = absurd (apart e refl)

@@ -1,21 +1,19 @@
 -- What stands at the front of a text. The characters of a word are at or above a bound, and what follows it
 -- begins below.
-use Rattle.std.proofs.Common.{◌≡◌, ℕ, zero, suc, ◌+◌, ◌*◌, ◌/◌, ◌%◌, ◌^◌, ◌<◌, ◌≤◌, ◌==◌, nat_lt, Bool, true, false, List, [], ◌∷◌, ◌++◌, drop, refl, sym, ap, ◌∙◌, arith, Some, Ok, Result}
-use Rattle.std.specs.Prelude.{slice_index, not, IsTrue, decimal, length}
+use Rattle.std.proofs.Common.{◌≡◌, ℕ, zero, suc, ◌+◌, ◌*◌, ◌/◌, ◌%◌, ◌<◌, ◌≤◌, ◌==◌, nat_lt, Bool, true, false, List, [], ◌∷◌, ◌++◌, drop, refl, sym, ap, ◌∙◌, arith, Some, Ok, Result}
+use Rattle.std.specs.Prelude.{slice_index, not, if◌then◌else◌, IsTrue, decimal, length, ℤ, pos, negsuc}
+use Rattle.std.specs.Fmt.{digits, digits_onto, digit_glyph, signed_decimal}
 use Rattle.std.specs.List.{All}
-use Rattle.std.specs.Str.Parse.{AllDigits, digits_value}
 use Rattle.std.specs.Int.{byte_at, bytes_high_first}
 use Rattle.std.proofs.lemmas.Bool.Decides.{nat_tests}
-use Rattle.std.proofs.lemmas.Fmt.{decimal_is_IsNumeral, decimal_is_IsNumeral_wide}
-use Rattle.std.proofs.lemmas.List.Elements.{All-nil, All-cons, All-head, All-tail, All-from_get_or}
-use Rattle.std.proofs.lemmas.Str.Parse.{digit_at}
+use Rattle.std.proofs.lemmas.List.Elements.{All-nil, All-cons, All-head, All-tail, All-weaker}
 use Rattle.hex.specs.Hex.{encode_lower, encode_with, lower_digits, hex_digit_value, decode_of, IsBytes}
 use Rattle.hex.specs.declared.error.FromHexError.{FromHexError}
 use Rattle.hex.proofs.HexLemmas.{decode_of-encode_lower, IsDigits-lower_digits}
 use Rattle.report_text.specs.Pieces.{hex_or_dash, digits_text, two_bytes}
+use Rattle.ber_tlv.specs.Item.{AreBytes}
 use Rattle.ber_tlv.specs.Written.{tag_bytes}
 use Rattle.emv_dict.specs.Flags.{tvr_bytes}
-use Rattle.line_texts.specs.LineTexts.{IsCount, AreBytes, IsTag}
 
 abbrev pub AtLeast : ℕ → List ℕ → Type 0
 AtLeast bound word = All (λ c. bound ≤ c) word
@@ -30,16 +28,17 @@ high_cons : (bound c : ℕ) (word : List ℕ) → bound ≤ c → AtLeast bound 
 high_cons bound c word here all = All-cons (λ (x : ℕ). bound ≤ x) c word here all
 
 byte_head : (b : ℕ) (bytes : List ℕ) → AreBytes (b ∷ bytes) → b < 256
-byte_head b bytes all = All-head (λ (x : ℕ). x < 256) b bytes all
+byte_head b bytes all = all 0
 
 byte_tail : (b : ℕ) (bytes : List ℕ) → AreBytes (b ∷ bytes) → AreBytes bytes
-byte_tail b bytes all = All-tail (λ (x : ℕ). x < 256) b bytes all
+byte_tail b bytes all k = all (suc k)
 
 byte_cons : (b : ℕ) (bytes : List ℕ) → b < 256 → AreBytes bytes → AreBytes (b ∷ bytes)
-byte_cons b bytes here all = All-cons (λ (x : ℕ). x < 256) b bytes here all
+byte_cons b bytes here all zero = here
+byte_cons b bytes here all (suc k) = all k
 
 pub no_bytes : AreBytes []
-no_bytes = All-nil (λ (x : ℕ). x < 256)
+no_bytes k = omega arith
 
 pub one_byte : (b : ℕ) → b < 256 → AreBytes (b ∷ [])
 one_byte b h = byte_cons b [] h no_bytes
@@ -69,27 +68,70 @@ word bound (x ∷ xs) (y ∷ ys) c d r s e p q h k =
     let words : xs ≡ ys = same.0 in
     (cc, same.1)
 
--- a number
-from_digits : (ds : List ℕ) → AllDigits 10 ds → AtLeast 48 ds
-from_digits ds all = All-from_get_or (λ (x : ℕ). 48 ≤ x) ds 0 (λ i h. (digit_at ds i all h).0)
+-- the digits of a number, whatever its size
+abbrev IsDigit : ℕ → Type 0
+IsDigit c = (48 ≤ c) × (c < 58)
 
-pub decimal_high : (n : ℕ) → IsCount n → AtLeast 48 (decimal n)
-decimal_high n h = from_digits (decimal n) (decimal_is_IsNumeral n h).0.1
+glyph_digit : (d : ℕ) → d < 10 → IsDigit (digit_glyph false d)
+glyph_digit d h =
+    let yes : nat_lt d 10 ≡ true = grind (arith, nat_tests) in
+    rw yes (omega arith, omega arith)
 
-pub number : (m n c d : ℕ) (r s : List ℕ) → decimal m ++ c ∷ r ≡ decimal n ++ d ∷ s → IsCount m → IsCount n → c < 48 → d < 48 → (m ≡ n) × (c ∷ r ≡ d ∷ s)
-number m n c d r s e hm hn hc hd =
-    let same = word 48 (decimal m) (decimal n) c d r s e (decimal_high m hm) (decimal_high n hn) hc hd in
-    (sym (decimal_is_IsNumeral m hm).1 ∙ ap (digits_value 10) same.0 ∙ (decimal_is_IsNumeral n hn).1, same.1)
+onto_digits : (k n : ℕ) (acc : List ℕ) → All IsDigit acc → All IsDigit (digits_onto k 10 false n acc)
+onto_digits zero n acc all = all
+onto_digits (suc k) n acc all =
+    let d : ℕ = digit_glyph false (n % 10) in
+    let here : All IsDigit (d ∷ acc) = All-cons IsDigit d acc (glyph_digit (n % 10) (omega arith)) all in
+    let later : All IsDigit (digits_onto k 10 false (n / 10) (d ∷ acc)) = onto_digits k (n / 10) (d ∷ acc) here in
+    elim (n / 10 == 0) as (λ b. All IsDigit (if b then d ∷ acc else digits_onto k 10 false (n / 10) (d ∷ acc))) [ true ↦ here | false ↦ later ]
 
-pub wide_high : (n : ℕ) → n < 10 ^ 64 → AtLeast 48 (decimal n)
-wide_high n h = from_digits (decimal n) (decimal_is_IsNumeral_wide n h).0.1
+onto_more : (k n : ℕ) (acc : List ℕ) → 0 < length acc → 0 < length (digits_onto k 10 false n acc)
+onto_more zero n acc some = some
+onto_more (suc k) n acc some =
+    let d : ℕ = digit_glyph false (n % 10) in
+    let here : 0 < length (d ∷ acc) = omega arith in
+    let later : 0 < length (digits_onto k 10 false (n / 10) (d ∷ acc)) = onto_more k (n / 10) (d ∷ acc) here in
+    elim (n / 10 == 0) as (λ b. 0 < length (if b then d ∷ acc else digits_onto k 10 false (n / 10) (d ∷ acc))) [ true ↦ here | false ↦ later ]
 
-pub wide_number : (m n c d : ℕ) (r s : List ℕ) → decimal m ++ c ∷ r ≡ decimal n ++ d ∷ s → m < 10 ^ 64 → n < 10 ^ 64 → c < 48 → d < 48 → (m ≡ n) × (c ∷ r ≡ d ∷ s)
-wide_number m n c d r s e hm hn hc hd =
-    let fm = decimal_is_IsNumeral_wide m hm in
-    let fn = decimal_is_IsNumeral_wide n hn in
-    let same = word 48 (decimal m) (decimal n) c d r s e (wide_high m hm) (wide_high n hn) hc hd in
-    (sym fm.1 ∙ ap (digits_value 10) same.0 ∙ fn.1, same.1)
+onto_some : (k n : ℕ) → 0 < length (digits_onto (suc k) 10 false n [])
+onto_some k n =
+    let d : ℕ = digit_glyph false (n % 10) in
+    let here : 0 < length (d ∷ []) = omega arith in
+    let later : 0 < length (digits_onto k 10 false (n / 10) (d ∷ [])) = onto_more k (n / 10) (d ∷ []) here in
+    elim (n / 10 == 0) as (λ b. 0 < length (if b then d ∷ [] else digits_onto k 10 false (n / 10) (d ∷ []))) [ true ↦ here | false ↦ later ]
+
+decimal_digits : (n : ℕ) → All IsDigit (decimal n)
+unfolding digits
+decimal_digits n = onto_digits 64 n [] (All-nil IsDigit)
+
+decimal_some : (n : ℕ) → 0 < length (decimal n)
+unfolding digits
+decimal_some n = onto_some 63 n
+
+pub decimal_high : (n : ℕ) → AtLeast 48 (decimal n)
+decimal_high n = All-weaker IsDigit (λ (c : ℕ). 48 ≤ c) (λ c h. h.0) (decimal n) (decimal_digits n)
+
+first_low : (ds rest : List ℕ) → All IsDigit ds → 0 < length ds → slice_index (ds ++ rest) 0 < 58
+first_low [] rest all some = absurd (omega arith)
+first_low (d ∷ ds) rest all some = (All-head IsDigit d ds all).1
+
+pub decimal_first : (n : ℕ) (rest : List ℕ) → slice_index (decimal n ++ rest) 0 < 58
+decimal_first n rest = first_low (decimal n) rest (decimal_digits n) (decimal_some n)
+
+pub number : (m n c d : ℕ) (r s : List ℕ) → decimal m ++ c ∷ r ≡ decimal n ++ d ∷ s → c < 48 → d < 48 → (decimal m ≡ decimal n) × (c ∷ r ≡ d ∷ s)
+number m n c d r s e hc hd = word 48 (decimal m) (decimal n) c d r s e (decimal_high m) (decimal_high n) hc hd
+
+-- an amount, which may begin with a minus sign
+amount_high : (z : ℤ) → AtLeast 45 (signed_decimal z)
+amount_high (pos n) = All-weaker (λ (c : ℕ). 48 ≤ c) (λ (c : ℕ). 45 ≤ c) (λ c h. omega arith) (decimal n) (decimal_high n)
+amount_high (negsuc n) =
+    high_cons 45 45 (decimal (suc n)) (omega arith)
+    (All-weaker (λ (c : ℕ). 48 ≤ c) (λ (c : ℕ). 45 ≤ c) (λ c h. omega arith) (decimal (suc n)) (decimal_high (suc n)))
+
+pub amount : (y z : ℤ) {r s : List ℕ} → signed_decimal y ++ 10 ∷ r ≡ signed_decimal z ++ 10 ∷ s → (signed_decimal y ≡ signed_decimal z) × (r ≡ s)
+amount y z {r} {s} e =
+    let same = word 45 (signed_decimal y) (signed_decimal z) 10 10 r s e (amount_high y) (amount_high z) (omega arith) (omega arith) in
+    (same.0, behind 1 same.1)
 
 -- bytes in hexadecimal
 digit_range : (c d : ℕ) → hex_digit_value c ≡ Some d → d < 16 → slice_index lower_digits d ≡ c → (48 ≤ c)
@@ -156,37 +198,22 @@ dash_first (b ∷ bytes) rest all =
     let digit : b / 16 < 16 = omega arith in
     digit_low (slice_index lower_digits (b / 16)) (b / 16) (IsDigits-lower_digits (b / 16) digit) digit refl
 
--- the value of bytes, the highest first
-value_behind : ℕ → List ℕ → ℕ
-value_behind n [] = n
-value_behind n (b ∷ bytes) = value_behind (n * 256 + b) bytes
-
-tag_value_by : (tag : ℕ) (one two : Bool) → nat_lt tag 256 ≡ one → nat_lt tag 65536 ≡ two → IsTag tag → value_behind 0 (tag_bytes tag) ≡ tag
-unfolding value_behind
-tag_value_by tag true two p q h = rw p (omega arith)
-tag_value_by tag false true p q h = rw (p, q) (omega arith)
-tag_value_by tag false false p q h = rw (p, q) (omega arith)
-
-tag_value : (tag : ℕ) → IsTag tag → value_behind 0 (tag_bytes tag) ≡ tag
-tag_value tag h = tag_value_by tag (nat_lt tag 256) (nat_lt tag 65536) refl refl h
-
-bytes_of_tag : (tag : ℕ) (one two : Bool) → nat_lt tag 256 ≡ one → nat_lt tag 65536 ≡ two → IsTag tag → AreBytes (tag_bytes tag)
-bytes_of_tag tag true two p q h =
+-- the bytes of a tag
+bytes_of_tag : (tag : ℕ) (one two : Bool) → nat_lt tag 256 ≡ one → nat_lt tag 65536 ≡ two → AreBytes (tag_bytes tag)
+bytes_of_tag tag true two p q =
     let low : tag < 256 = grind (arith, nat_tests) in
     rw p (one_byte tag low)
-bytes_of_tag tag false true p q h =
+bytes_of_tag tag false true p q =
     let low : tag < 65536 = grind (arith, nat_tests) in
     rw (p, q) (byte_cons (tag / 256) (tag % 256 ∷ []) (omega arith) (one_byte (tag % 256) (omega arith)))
-bytes_of_tag tag false false p q h =
+bytes_of_tag tag false false p q =
     rw (p, q) (byte_cons (tag / 65536 % 256) (tag / 256 % 256 ∷ tag % 256 ∷ []) (omega arith) (byte_cons (tag / 256 % 256) (tag % 256 ∷ []) (omega arith) (one_byte (tag % 256) (omega arith))))
 
-pub tag_is_bytes : (tag : ℕ) → IsTag tag → AreBytes (tag_bytes tag)
-tag_is_bytes tag h = bytes_of_tag tag (nat_lt tag 256) (nat_lt tag 65536) refl refl h
+tag_is_bytes : (tag : ℕ) → AreBytes (tag_bytes tag)
+tag_is_bytes tag = bytes_of_tag tag (nat_lt tag 256) (nat_lt tag 65536) refl refl
 
-pub tag : (m n c d : ℕ) (r s : List ℕ) → encode_lower (tag_bytes m) ++ c ∷ r ≡ encode_lower (tag_bytes n) ++ d ∷ s → IsTag m → IsTag n → c < 48 → d < 48 → (m ≡ n) × (c ∷ r ≡ d ∷ s)
-tag m n c d r s e hm hn hc hd =
-    let same = hex (tag_bytes m) (tag_bytes n) c d r s e (tag_is_bytes m hm) (tag_is_bytes n hn) hc hd in
-    (sym (tag_value m hm) ∙ ap (value_behind 0) same.0 ∙ tag_value n hn, same.1)
+pub tag : (m n c d : ℕ) (r s : List ℕ) → encode_lower (tag_bytes m) ++ c ∷ r ≡ encode_lower (tag_bytes n) ++ d ∷ s → c < 48 → d < 48 → (tag_bytes m ≡ tag_bytes n) × (c ∷ r ≡ d ∷ s)
+tag m n c d r s e hc hd = hex (tag_bytes m) (tag_bytes n) c d r s e (tag_is_bytes m) (tag_is_bytes n) hc hd
 
 -- two bytes, and the five of the verification results
 byte_at_byte : (k n : ℕ) → byte_at k n < 256
@@ -200,47 +227,35 @@ are_bytes (suc k) n = byte_cons (byte_at k n) (bytes_high_first k n) (byte_at_by
 pub two_are_bytes : (n : ℕ) → AreBytes (two_bytes n)
 two_are_bytes n = are_bytes 2 n
 
-two_value : (n : ℕ) → n < 2 ^ 16 → value_behind 0 (two_bytes n) ≡ n
-unfolding value_behind
-two_value n h = omega arith
-
-pub two : (m n c d : ℕ) (r s : List ℕ) → encode_lower (two_bytes m) ++ c ∷ r ≡ encode_lower (two_bytes n) ++ d ∷ s → m < 2 ^ 16 → n < 2 ^ 16 → c < 48 → d < 48 → (m ≡ n) × (c ∷ r ≡ d ∷ s)
-two m n c d r s e hm hn hc hd =
-    let same = hex (two_bytes m) (two_bytes n) c d r s e (two_are_bytes m) (two_are_bytes n) hc hd in
-    (sym (two_value m hm) ∙ ap (value_behind 0) same.0 ∙ two_value n hn, same.1)
+pub two : (m n c d : ℕ) (r s : List ℕ) → encode_lower (two_bytes m) ++ c ∷ r ≡ encode_lower (two_bytes n) ++ d ∷ s → c < 48 → d < 48 → (two_bytes m ≡ two_bytes n) × (c ∷ r ≡ d ∷ s)
+two m n c d r s e hc hd = hex (two_bytes m) (two_bytes n) c d r s e (two_are_bytes m) (two_are_bytes n) hc hd
 
 five_are_bytes : (n : ℕ) → AreBytes (tvr_bytes n)
 five_are_bytes n = are_bytes 5 n
 
-five_value : (n : ℕ) → n < 2 ^ 40 → value_behind 0 (tvr_bytes n) ≡ n
-unfolding value_behind
-five_value n h = omega arith
-
-pub five : (m n c d : ℕ) (r s : List ℕ) → encode_lower (tvr_bytes m) ++ c ∷ r ≡ encode_lower (tvr_bytes n) ++ d ∷ s → m < 2 ^ 40 → n < 2 ^ 40 → c < 48 → d < 48 → (m ≡ n) × (c ∷ r ≡ d ∷ s)
-five m n c d r s e hm hn hc hd =
-    let same = hex (tvr_bytes m) (tvr_bytes n) c d r s e (five_are_bytes m) (five_are_bytes n) hc hd in
-    (sym (five_value m hm) ∙ ap (value_behind 0) same.0 ∙ five_value n hn, same.1)
+pub five : (m n c d : ℕ) (r s : List ℕ) → encode_lower (tvr_bytes m) ++ c ∷ r ≡ encode_lower (tvr_bytes n) ++ d ∷ s → c < 48 → d < 48 → (tvr_bytes m ≡ tvr_bytes n) × (c ∷ r ≡ d ∷ s)
+five m n c d r s e hc hd = hex (tvr_bytes m) (tvr_bytes n) c d r s e (five_are_bytes m) (five_are_bytes n) hc hd
 
 -- the digits of an account number
 digits_high : (ds : List ℕ) → AtLeast 48 (digits_text ds)
 digits_high [] = All-nil (λ (x : ℕ). 48 ≤ x)
 digits_high (d ∷ ds) = high_cons 48 (d + 48) (digits_text ds) (omega arith) (digits_high ds)
 
-pub digits_same : (xs ys : List ℕ) → digits_text xs ≡ digits_text ys → xs ≡ ys
-digits_same [] [] e = refl
-digits_same [] (y ∷ ys) e = cc
-digits_same (x ∷ xs) [] e = cc
-digits_same (x ∷ xs) (y ∷ ys) e =
+pub pan_same : (xs ys : List ℕ) → digits_text xs ≡ digits_text ys → xs ≡ ys
+pan_same [] [] e = refl
+pan_same [] (y ∷ ys) e = cc
+pan_same (x ∷ xs) [] e = cc
+pan_same (x ∷ xs) (y ∷ ys) e =
     let first : x + 48 ≡ y + 48 = cc in
     let rest : digits_text xs ≡ digits_text ys = cc in
     let here : x ≡ y = omega arith in
-    let there = digits_same xs ys rest in
+    let there = pan_same xs ys rest in
     cc
 
-pub digits : (xs ys : List ℕ) (c d : ℕ) (r s : List ℕ) → digits_text xs ++ c ∷ r ≡ digits_text ys ++ d ∷ s → c < 48 → d < 48 → (xs ≡ ys) × (c ∷ r ≡ d ∷ s)
-digits xs ys c d r s e hc hd =
+pub pan_digits : (xs ys : List ℕ) (c d : ℕ) (r s : List ℕ) → digits_text xs ++ c ∷ r ≡ digits_text ys ++ d ∷ s → c < 48 → d < 48 → (xs ≡ ys) × (c ∷ r ≡ d ∷ s)
+pan_digits xs ys c d r s e hc hd =
     let same = word 48 (digits_text xs) (digits_text ys) c d r s e (digits_high xs) (digits_high ys) hc hd in
-    (digits_same xs ys same.0, same.1)
+    (pan_same xs ys same.0, same.1)
 
 -- two texts whose first three characters differ
 abbrev pub three : List ℕ → ℕ

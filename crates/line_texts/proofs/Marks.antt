@@ -13,7 +13,7 @@ use Rattle.report_text.specs.Words.{ending_text}
 use Rattle.report_text.specs.declared.line.EndParts.{EndParts}
 use Rattle.report_text.specs.declared.line.Line.{Line}
 use Rattle.report_text.specs.declared.line.Line.TheVariants.{Power, PowerCanned, PowerTorn, ToCard, FromCard, Torn, Gone, ToHost, FromHost, NoReply, End, EndLost, SettleCall, SettleReply, AuditPower, AuditAsk, AuditAnswer, Balance, Done, Object, ReadOk, ReadEnded}
-use Rattle.line_texts.specs.LineTexts.{IsCount, IsCardName, IsTellable}
+use Rattle.report_text.specs.Told.{IsCardName, IsTold}
 use Rattle.line_texts.proofs.Fronts.{AtLeast, high_head, high_tail, decimal_high, dash_first}
 use Rattle.line_texts.proofs.Counters.{begun}
 use Rattle.line_texts.proofs.Flat.{flat_text}
@@ -108,27 +108,27 @@ line_mark text =
     else if slice_index text 0 == 111 then 19
     else read_mark (slice_index text 5)
 
-lane_line : (lane : ℕ) (rest : List ℕ) → IsCount lane → line_mark (76 ∷ (decimal lane ++ 32 ∷ rest)) ≡ lane_mark (32 ∷ rest)
+lane_line : (lane : ℕ) (rest : List ℕ) → line_mark (76 ∷ (decimal lane ++ 32 ∷ rest)) ≡ lane_mark (32 ∷ rest)
 unfolding line_mark
-lane_line lane rest h = ap lane_mark (rest_word 48 (decimal lane) 32 rest (decimal_high lane h) (omega arith))
+lane_line lane rest = ap lane_mark (rest_word 48 (decimal lane) 32 rest (decimal_high lane) (omega arith))
 
-settle_line : (lane : ℕ) (rest : List ℕ) → IsCount lane → line_mark (83 ∷ (decimal lane ++ 32 ∷ rest)) ≡ settle_mark (32 ∷ rest)
+settle_line : (lane : ℕ) (rest : List ℕ) → line_mark (83 ∷ (decimal lane ++ 32 ∷ rest)) ≡ settle_mark (32 ∷ rest)
 unfolding line_mark
-settle_line lane rest h = ap settle_mark (rest_word 48 (decimal lane) 32 rest (decimal_high lane h) (omega arith))
+settle_line lane rest = ap settle_mark (rest_word 48 (decimal lane) 32 rest (decimal_high lane) (omega arith))
 
 audit_line : (card rest : List ℕ) → IsCardName card → line_mark (65 ∷ 32 ∷ (card ++ 32 ∷ rest)) ≡ audit_mark (32 ∷ rest)
 unfolding line_mark
 audit_line card rest h = ap audit_mark (rest_word 33 card 32 rest (name_high card h) (omega arith))
 
-power_line : (lane : ℕ) (card : List ℕ) (c : ℕ) (rest : List ℕ) → IsCount lane → IsCardName card → c < 33
+power_line : (lane : ℕ) (card : List ℕ) (c : ℕ) (rest : List ℕ) → IsCardName card → c < 33
     → line_mark (76 ∷ (decimal lane ++ (codes " power " ++ (card ++ c ∷ rest)))) ≡ power_mark (c ∷ rest)
 unfolding lane_mark
-power_line lane card c rest h name low = lane_line lane _ h ∙ ap power_mark (rest_word 33 card c rest (name_high card name) low)
+power_line lane card c rest name low = lane_line lane _ ∙ ap power_mark (rest_word 33 card c rest (name_high card name) low)
 
-end_line : (lane number : ℕ) (rest : List ℕ) → IsCount lane → IsCount number
+end_line : (lane number : ℕ) (rest : List ℕ)
     → line_mark (76 ∷ (decimal lane ++ (codes " end " ++ (decimal number ++ 32 ∷ rest)))) ≡ end_mark (32 ∷ rest)
 unfolding lane_mark
-end_line lane number rest h few = lane_line lane _ h ∙ ap end_mark (rest_word 48 (decimal number) 32 rest (decimal_high number few) (omega arith))
+end_line lane number rest = lane_line lane _ ∙ ap end_mark (rest_word 48 (decimal number) 32 rest (decimal_high number) (omega arith))
 
 power_low_by : (c : ℕ) (rest : List ℕ) (ends : Bool) → (c == 10) ≡ ends → (c ≢ 10 → slice_index rest 0 < 58) → power_mark (c ∷ rest) ≡ 1
 unfolding power_mark
@@ -172,39 +172,39 @@ parts_begin parts r =
     ++ (codes " cvm=" ++ (encode_lower parts.cvm ++ (codes " arc=" ++ (arc_text parts.arc ++ (cryptogram_text parts.atc_ac ++ (codes " scripts=" ++ (scripts_text parts.scripts.items ++ 10 ∷ r)))))))))) in
     (rest, simp append_assoc)
 
-marked : (line : Line) (r : List ℕ) → IsTellable line → line_mark (flat_text line r) ≡ kind line
-unfolding IsTellable line_mark lane_mark settle_mark audit_mark answer_mark reply_mark read_mark power_mark end_mark
+marked : (line : Line) (r : List ℕ) → IsTold line → line_mark (flat_text line r) ≡ kind line
+unfolding line_mark lane_mark settle_mark audit_mark answer_mark reply_mark read_mark power_mark end_mark
 marked (Power lane card apps) r t =
-    let start = begun apps.items r t.2 in
+    let start = begun apps.items r in
     let whole : line_mark (76 ∷ (decimal lane ++ (codes " power " ++ (card.items ++ start.first ∷ start.rest)))) ≡ power_mark (start.first ∷ start.rest) =
-    power_line lane card.items start.first start.rest t.0 t.1 start.low in
+    power_line lane card.items start.first start.rest t.name start.low in
     rw start.is (whole ∙ power_low start.first start.rest start.digit)
-marked (PowerCanned lane card) r t = power_line lane card.items 32 _ t.0 t.1 (omega arith)
-marked (PowerTorn lane card) r t = power_line lane card.items 32 _ t.0 t.1 (omega arith)
-marked (ToCard lane bytes) r t = lane_line lane _ t.0
-marked (FromCard lane bytes) r t = lane_line lane _ t.0 ∙ answer_low _ (dash_first bytes.items (10 ∷ r) t.1)
-marked (Torn lane) r t = lane_line lane _ t
-marked (Gone lane) r t = lane_line lane _ t
-marked (ToHost lane bytes) r t = lane_line lane _ t.0
-marked (FromHost lane bytes) r t = lane_line lane _ t.0 ∙ reply_low _ (dash_first bytes.items (10 ∷ r) t.1)
-marked (NoReply lane) r t = lane_line lane _ t
+marked (PowerCanned lane card) r t = power_line lane card.items 32 _ t.name (omega arith)
+marked (PowerTorn lane card) r t = power_line lane card.items 32 _ t.name (omega arith)
+marked (ToCard lane bytes) r t = lane_line lane _
+marked (FromCard lane bytes) r t = lane_line lane _ ∙ answer_low _ (dash_first bytes.items (10 ∷ r) t.bytes)
+marked (Torn lane) r t = lane_line lane _
+marked (Gone lane) r t = lane_line lane _
+marked (ToHost lane bytes) r t = lane_line lane _
+marked (FromHost lane bytes) r t = lane_line lane _ ∙ reply_low _ (dash_first bytes.items (10 ∷ r) t.bytes)
+marked (NoReply lane) r t = lane_line lane _
 marked (End lane number parts) r t =
     let begin = parts_begin parts r in
-    end_line lane number (parts_text parts ++ 10 ∷ r) t.0 t.1
+    end_line lane number (parts_text parts ++ 10 ∷ r)
     ∙ ap (λ (text : List ℕ). end_mark (32 ∷ text)) begin.1 ∙ end_parts_mark parts.ending begin.0
-marked (EndLost lane number) r t = end_line lane number _ t.0 t.1
-marked (SettleCall lane bytes) r t = settle_line lane _ t.0
-marked (SettleReply lane bytes) r t = settle_line lane _ t.0
-marked (AuditPower card apps) r t = audit_line card.items _ t.0
-marked (AuditAsk card bytes) r t = audit_line card.items _ t.0
-marked (AuditAnswer card bytes) r t = audit_line card.items _ t.0
+marked (EndLost lane number) r t = end_line lane number _
+marked (SettleCall lane bytes) r t = settle_line lane _
+marked (SettleReply lane bytes) r t = settle_line lane _
+marked (AuditPower card apps) r t = audit_line card.items _ t.name
+marked (AuditAsk card bytes) r t = audit_line card.items _ t.name
+marked (AuditAnswer card bytes) r t = audit_line card.items _ t.name
 marked (Balance pan amount) r t = refl
 marked (Done number) r t = refl
 marked (Object tag value) r t = refl
 marked ReadOk r t = refl
 marked (ReadEnded ending) r t = ending_mark ending (10 ∷ r)
 
-pub same_kind : (a b : Line) (r s : List ℕ) → flat_text a r ≡ flat_text b s → IsTellable a → IsTellable b → IsTrue (kind a == kind b)
+pub same_kind : (a b : Line) (r s : List ℕ) → flat_text a r ≡ flat_text b s → IsTold a → IsTold b → IsTrue (kind a == kind b)
 same_kind a b r s e ta tb =
     let same : kind a ≡ kind b = sym (marked a r ta) ∙ ap line_mark e ∙ marked b s tb in
     grind (arith, nat_tests)

@@ -1,16 +1,17 @@
 -- How a purchase ended is read from the text behind its number.
-use Rattle.std.proofs.Common.{◌≡◌, ℕ, ◌<◌, List, [], ◌∷◌, ◌++◌, length, length-append, refl, sym, ap, ◌∙◌, arith, append_assoc, Option, Some, None}
-use Rattle.std.specs.Prelude.{codes}
+use Rattle.std.proofs.Common.{◌≡◌, ℕ, zero, suc, List, [], ◌∷◌, ◌++◌, length, length-append, refl, sym, ap, ◌∙◌, arith, append_assoc, Option, Some, None}
+use Rattle.std.specs.Prelude.{codes, IfSome}
 use Rattle.std.specs.List.{All, flat_map}
-use Rattle.std.proofs.lemmas.List.Elements.{All-head, All-tail, All-append}
+use Rattle.std.proofs.lemmas.List.Elements.{All-head, All-tail}
 use Rattle.hex.specs.Hex.{encode_lower}
-use Rattle.emv_dict.specs.declared.ending.Ending.{Ending}
 use Rattle.emv_dict.specs.Flags.{tvr_bytes}
 use Rattle.report_text.specs.Pieces.{two_bytes}
 use Rattle.report_text.specs.Words.{ending_text}
 use Rattle.report_text.specs.Text.{arc_text, cryptogram_text, scripts_text, parts_text}
 use Rattle.report_text.specs.declared.line.EndParts.{EndParts}
-use Rattle.line_texts.specs.LineTexts.{AreBytes, IsCodeTold, IsLastTold, IsResult, ArePartsTold}
+use Rattle.ber_tlv.specs.Item.{AreBytes}
+use Rattle.report_text.specs.Told.{IsResult, ArePartsTold}
+use Rattle.line_texts.specs.LineTexts.{SameLast, SameParts}
 use Rattle.line_texts.proofs.Fronts.{behind, hex, two, five, dash, no_dash, no_bytes, two_are_bytes}
 use Rattle.line_texts.proofs.Endings.{ending_front}
 
@@ -27,33 +28,20 @@ long_front (x ∷ xs) (y ∷ ys) r s e h =
     (cc, same.1)
 
 -- the response code
-code_text_two : (code : Option (List ℕ)) → IsCodeTold code → length (arc_text code) ≡ 2
-unfolding arc_text IsCodeTold
+code_text_two : (code : Option (List ℕ)) → IfSome code (λ two. length two ≡ 2) → length (arc_text code) ≡ 2
+unfolding arc_text
 code_text_two None told = refl
-code_text_two (Some code) told = told.0
+code_text_two (Some code) told = told
 
-code_same : (a b : Option (List ℕ)) → arc_text a ≡ arc_text b → IsCodeTold a → IsCodeTold b → a ≡ b
-unfolding arc_text IsCodeTold
-code_same None None e ta tb = refl
-code_same None (Some code) e ta tb = absurd (tb.1 (sym e))
-code_same (Some code) None e ta tb = absurd (ta.1 e)
-code_same (Some one) (Some other) e ta tb = ap Some e
-
-code_front : (a b : Option (List ℕ)) {r s : List ℕ} → arc_text a ++ r ≡ arc_text b ++ s → IsCodeTold a → IsCodeTold b → (a ≡ b) × (r ≡ s)
-code_front a b {r} {s} e ta tb =
-    let same = long_front (arc_text a) (arc_text b) r s e (code_text_two a ta ∙ sym (code_text_two b tb)) in
-    (code_same a b same.0 ta tb, same.1)
+code_front : (a b : Option (List ℕ)) {r s : List ℕ} → arc_text a ++ r ≡ arc_text b ++ s → IfSome a (λ two. length two ≡ 2) → IfSome b (λ two. length two ≡ 2)
+    → (arc_text a ≡ arc_text b) × (r ≡ s)
+code_front a b {r} {s} e ta tb = long_front (arc_text a) (arc_text b) r s e (code_text_two a ta ∙ sym (code_text_two b tb))
 
 -- the counter and the cryptogram
-last_of : ℕ → List ℕ → Option (ℕ × List ℕ)
-last_of counter cryptogram = Some (counter, cryptogram)
-
-last_by : {m n : ℕ} {xs ys : List ℕ} → m ≡ n → xs ≡ ys → last_of m xs ≡ last_of n ys
-last_by p q = cc
-
-last_front : (a b : Option (ℕ × List ℕ)) (r s : List ℕ) → cryptogram_text a ++ 32 ∷ r ≡ cryptogram_text b ++ 32 ∷ s → IsLastTold a → IsLastTold b → (a ≡ b) × (r ≡ s)
-unfolding cryptogram_text IsLastTold last_of
-last_front None None r s e ta tb = (refl, behind 30 e)
+last_front : (a b : Option (ℕ × List ℕ)) (r s : List ℕ) → cryptogram_text a ++ 32 ∷ r ≡ cryptogram_text b ++ 32 ∷ s → IfSome a (λ last. AreBytes last.1) → IfSome b (λ last. AreBytes last.1)
+    → SameLast a b × (r ≡ s)
+unfolding cryptogram_text SameLast
+last_front None None r s e ta tb = (tt, behind 30 e)
 last_front None (Some n) r s e ta tb =
     let flat = simp append_assoc at (behind 5 e) in
     absurd (no_dash (two_bytes n.0) _ _ flat (two_are_bytes n.0) (omega arith))
@@ -62,33 +50,38 @@ last_front (Some m) None r s e ta tb =
     absurd (no_dash (two_bytes m.0) _ _ flat (two_are_bytes m.0) (omega arith))
 last_front (Some m) (Some n) r s e ta tb =
     let flat : encode_lower (two_bytes m.0) ++ 32 ∷ 97 ∷ 99 ∷ 61 ∷ (encode_lower m.1 ++ 32 ∷ r) ≡ encode_lower (two_bytes n.0) ++ 32 ∷ 97 ∷ 99 ∷ 61 ∷ (encode_lower n.1 ++ 32 ∷ s) = simp append_assoc at (behind 5 e) in
-    let counters = two m.0 n.0 32 32 _ _ flat ta.0 tb.0 (omega arith) (omega arith) in
-    let cryptograms = hex m.1 n.1 32 32 r s (behind 4 counters.1) ta.1 tb.1 (omega arith) (omega arith) in
-    (last_by counters.0 cryptograms.0, behind 1 cryptograms.1)
+    let counters = two m.0 n.0 32 32 _ _ flat (omega arith) (omega arith) in
+    let cryptograms = hex m.1 n.1 32 32 r s (behind 4 counters.1) ta tb (omega arith) (omega arith) in
+    ((counters.0, cryptograms.0), behind 1 cryptograms.1)
 
 -- the results of scripts
 joined : List (List ℕ) → List ℕ
 joined results = flat_map (λ result. result) results
 
+bytes_append : (xs ys : List ℕ) → AreBytes xs → AreBytes ys → AreBytes (xs ++ ys)
+bytes_append [] ys p q k = q k
+bytes_append (x ∷ xs) ys p q zero = p 0
+bytes_append (x ∷ xs) ys p q (suc k) = bytes_append xs ys (λ j. p (suc j)) q k
+
 results_are_bytes : (results : List (List ℕ)) → All IsResult results → AreBytes (joined results)
 unfolding joined
 results_are_bytes [] all = no_bytes
 results_are_bytes (result ∷ results) all =
-    All-append (λ (b : ℕ). b < 256) result (joined results) (All-head IsResult result results all).1 (results_are_bytes results (All-tail IsResult result results all))
+    bytes_append result (joined results) (All-head IsResult result results all).bytes (results_are_bytes results (All-tail IsResult result results all))
 
 results_same : (xs ys : List (List ℕ)) → joined xs ≡ joined ys → All IsResult xs → All IsResult ys → xs ≡ ys
 unfolding joined
 results_same [] [] e p q = refl
 results_same [] (y ∷ ys) e p q =
-    let long : length y ≡ 5 = (All-head IsResult y ys q).0 in
+    let long : length y ≡ 5 = (All-head IsResult y ys q).five in
     let sum : 0 ≡ length (y ++ joined ys) = ap length e in
     absurd (omega (arith, length-append y (joined ys)))
 results_same (x ∷ xs) [] e p q =
-    let long : length x ≡ 5 = (All-head IsResult x xs p).0 in
+    let long : length x ≡ 5 = (All-head IsResult x xs p).five in
     let sum : length (x ++ joined xs) ≡ 0 = ap length e in
     absurd (omega (arith, length-append x (joined xs)))
 results_same (x ∷ xs) (y ∷ ys) e p q =
-    let same = long_front x y (joined xs) (joined ys) e ((All-head IsResult x xs p).0 ∙ sym (All-head IsResult y ys q).0) in
+    let same = long_front x y (joined xs) (joined ys) e ((All-head IsResult x xs p).five ∙ sym (All-head IsResult y ys q).five) in
     let here : x ≡ y = same.0 in
     let there : xs ≡ ys = results_same xs ys same.1 (All-tail IsResult x xs p) (All-tail IsResult y ys q) in
     cc
@@ -98,20 +91,6 @@ unfolding joined
 scripts_same xs ys e p q =
     let same = dash (joined xs) (joined ys) e (results_are_bytes xs p) (results_are_bytes ys q) in
     (results_same xs ys same.0 p q, same.1)
-
--- the parts
-parts_of : Ending → ℕ → ℕ → List ℕ → Option (List ℕ) → Option (ℕ × List ℕ) → List (List ℕ) → EndParts
-parts_of ending tvr tsi cvm arc atc_ac scripts =
-    record { ending = ending; tvr = record { 0 = tvr }; tsi = record { 0 = tsi }; cvm = cvm; arc = arc; atc_ac = atc_ac; scripts = record { items = scripts } }
-
-parts_by :
-    {a u : Ending} {b v c w : ℕ} {d x : List ℕ} {e y : Option (List ℕ)} {f z : Option (ℕ × List ℕ)} {g o : List (List ℕ)}
-    → a ≡ u → b ≡ v → c ≡ w → d ≡ x → e ≡ y → f ≡ z → g ≡ o → parts_of a b c d e f g ≡ parts_of u v w x y z o
-parts_by p q r s t i j = cc
-
-parts_equal : (a b : EndParts) → a.ending ≡ b.ending → a.tvr.0 ≡ b.tvr.0 → a.tsi.0 ≡ b.tsi.0 → a.cvm ≡ b.cvm → a.arc ≡ b.arc → a.atc_ac ≡ b.atc_ac → a.scripts.items ≡ b.scripts.items → a ≡ b
-unfolding parts_of
-parts_equal a b p q r s t i j = parts_by p q r s t i j
 
 -- their text, with what follows each
 abbrev flat_parts : EndParts → List ℕ → List ℕ
@@ -123,14 +102,16 @@ flat_of : (p : EndParts) (r : List ℕ) → parts_text p ++ 10 ∷ r ≡ flat_pa
 unfolding parts_text
 flat_of p r = simp append_assoc
 
-pub parts_same : (a b : EndParts) {r s : List ℕ} → parts_text a ++ 10 ∷ r ≡ parts_text b ++ 10 ∷ s → ArePartsTold a → ArePartsTold b → (a ≡ b) × (r ≡ s)
+pub parts_same : (a b : EndParts) {r s : List ℕ} → parts_text a ++ 10 ∷ r ≡ parts_text b ++ 10 ∷ s → ArePartsTold a → ArePartsTold b → SameParts a b × (r ≡ s)
 parts_same a b {r} {s} e ta tb =
     let flat : flat_parts a r ≡ flat_parts b s = sym (flat_of a r) ∙ e ∙ flat_of b s in
     let one = ending_front a.ending b.ending 32 32 _ _ flat ta.ending tb.ending (omega arith) (omega arith) in
-    let verified = five a.tvr.0 b.tvr.0 32 32 _ _ (behind 5 one.1) ta.tvr tb.tvr (omega arith) (omega arith) in
-    let three = two a.tsi.0 b.tsi.0 32 32 _ _ (behind 5 verified.1) ta.tsi tb.tsi (omega arith) (omega arith) in
+    let verified = five a.tvr.0 b.tvr.0 32 32 _ _ (behind 5 one.1) (omega arith) (omega arith) in
+    let three = two a.tsi.0 b.tsi.0 32 32 _ _ (behind 5 verified.1) (omega arith) (omega arith) in
     let four = hex a.cvm b.cvm 32 32 _ _ (behind 5 three.1) ta.cvm tb.cvm (omega arith) (omega arith) in
     let code = code_front a.arc b.arc (behind 5 four.1) ta.code tb.code in
     let last = last_front a.atc_ac b.atc_ac _ _ code.1 ta.last tb.last in
     let scripts = scripts_same a.scripts.items b.scripts.items (behind 8 last.1) ta.scripts tb.scripts in
-    (parts_equal a b one.0 verified.0 three.0 four.0 code.0 last.0 scripts.0, scripts.1)
+    let same : SameParts a b =
+    record { ending = one.0; tvr = verified.0; tsi = three.0; cvm = four.0; code = code.0; last = last.0; scripts = scripts.0 } in
+    (same, scripts.1)

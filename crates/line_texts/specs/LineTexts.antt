@@ -1,110 +1,111 @@
--- Lines tell what happened: two different lines have different texts, and so have two different reports.
-use Rattle.std.specs.Prelude.{◌≡◌, ◌≢◌, ℕ, ◌<◌, ◌^◌, List, length, codes, Option, Some, None, IfSome}
-use Rattle.std.specs.List.{All, flat_map}
-use Rattle.std.specs.Int.Signed.{mag}
+-- Lines tell what happened: lines with one text are alike in all that the text shows, and so are reports.
+use Rattle.std.specs.Prelude.{◌≡◌, ⊤, ℕ, List, decimal, Option, Some, None, option_map}
+use Rattle.std.specs.Fmt.{signed_decimal}
+use Rattle.std.specs.List.{All, AllZip, flat_map}
+use Rattle.ber_tlv.specs.Written.{tag_bytes}
+use Rattle.ber_tlv.specs.declared.tag.Tag.{Tag}
+use Rattle.emv_dict.specs.Flags.{tvr_bytes}
 use Rattle.emv_dict.specs.declared.ending.Cause.{Cause}
 use Rattle.emv_dict.specs.declared.ending.Cause.TheVariants as cause
 use Rattle.emv_dict.specs.declared.ending.Ending.{Ending}
 use Rattle.emv_dict.specs.declared.ending.Ending.TheVariants as ending
-use Rattle.report_text.specs.Text.{line_text}
+use Rattle.report_text.specs.Pieces.{two_bytes}
+use Rattle.report_text.specs.Text.{arc_text, line_text}
+use Rattle.report_text.specs.Told.{IsTold}
 use Rattle.report_text.specs.declared.line.Line.{Line}
 use Rattle.report_text.specs.declared.line.Line.TheVariants.{Power, PowerCanned, PowerTorn, ToCard, FromCard, Torn, Gone, ToHost, FromHost, NoReply, End, EndLost, SettleCall, SettleReply, AuditPower, AuditAsk, AuditAnswer, Balance, Done, Object, ReadOk, ReadEnded}
 use Rattle.report_text.specs.declared.line.Shown.{Shown}
 use Rattle.report_text.specs.declared.line.EndParts.{EndParts}
 
--- a number of 64 bits at most
-abbrev pub IsCount : ℕ → Type 0
-IsCount n = n < 2 ^ 64
+-- numbers of the same digits
+abbrev pub SameNumber : ℕ → ℕ → Type 0
+SameNumber m n = decimal m ≡ decimal n
 
--- the characters of a name stand behind the blank: a scenario's are small letters and digits
-abbrev pub IsCardName : List ℕ → Type 0
-IsCardName name = All (λ c. 32 < c) name
-
-abbrev pub AreBytes : List ℕ → Type 0
-AreBytes bytes = All (λ b. b < 256) bytes
-
--- a tag has three bytes at most (EMV 4.3 Book 3 Annex B1)
-abbrev pub IsTag : ℕ → Type 0
-IsTag tag = tag < 2 ^ 24
+-- tags of the same bytes
+abbrev pub SameTag : Tag → Tag → Type 0
+SameTag s t = tag_bytes s.0 ≡ tag_bytes t.0
 
 -- an application's counters
-pub record AreCounters (app : Shown) : Type 0 where
-  pub counter : IsCount app.counter
-  pub last_online : IsCount app.last_online
-  pub count : IsCount app.count
-  pub sum : IsCount app.sum
-  pub tries : IsCount app.tries
-  pub flags : IsCount app.flags
-  pub sum_two : IfSome app.sum_two IsCount
+pub record SameCounters (a b : Shown) : Type 0 where
+  pub counter : SameNumber a.counter b.counter
+  pub last_online : SameNumber a.last_online b.last_online
+  pub count : SameNumber a.count b.count
+  pub sum : SameNumber a.sum b.sum
+  pub tries : SameNumber a.tries b.tries
+  pub flags : SameNumber a.flags b.flags
+  pub sum_two : option_map decimal a.sum_two ≡ option_map decimal b.sum_two
 
--- what a cause names keeps to its width: two status bytes, a place, a tag, a group, a byte
-unfoldable pub IsCauseTold : Cause → Type 0
-IsCauseTold (cause.Status status) = status < 2 ^ 16
-IsCauseTold (cause.Coding place) = IsCount place
-IsCauseTold (cause.Repeated tag) = IsTag tag.0
-IsCauseTold (cause.Missing tag) = IsTag tag.0
-IsCauseTold (cause.Value tag) = IsTag tag.0
-IsCauseTold (cause.Afl group) = IsCount group
-IsCauseTold (cause.Dol tag) = IsTag tag.0
-IsCauseTold (cause.Kind information) = information < 256
-IsCauseTold other = Unit {0}
+-- one cause, with the same two status bytes, place, tag, group or byte
+unfoldable pub SameCause : Cause → Cause → Type 0
+SameCause cause.NoCandidate cause.NoCandidate = ⊤
+SameCause cause.CardBlocked cause.CardBlocked = ⊤
+SameCause cause.Answer cause.Answer = ⊤
+SameCause (cause.Status m) (cause.Status n) = two_bytes m ≡ two_bytes n
+SameCause (cause.Coding m) (cause.Coding n) = SameNumber m n
+SameCause (cause.Repeated s) (cause.Repeated t) = SameTag s t
+SameCause (cause.Missing s) (cause.Missing t) = SameTag s t
+SameCause (cause.Value s) (cause.Value t) = SameTag s t
+SameCause (cause.Afl m) (cause.Afl n) = SameNumber m n
+SameCause (cause.Dol s) (cause.Dol t) = SameTag s t
+SameCause cause.TooMuch cause.TooMuch = ⊤
+SameCause (cause.Kind m) (cause.Kind n) = m ≡ n
+SameCause a b = ⊥
 
-unfoldable pub IsEndingTold : Ending → Type 0
-IsEndingTold (ending.Terminated step cause) = IsCauseTold cause
-IsEndingTold other = Unit {0}
+unfoldable pub SameEnding : Ending → Ending → Type 0
+SameEnding (ending.Approved online) (ending.Approved other) = online ≡ other
+SameEnding (ending.Declined online) (ending.Declined other) = online ≡ other
+SameEnding (ending.Terminated step why) (ending.Terminated other how) = (step ≡ other) × SameCause why how
+SameEnding (ending.CutOff step) (ending.CutOff other) = step ≡ other
+SameEnding a b = ⊥
 
--- a response code has two characters, and isn't what stands where there is none
-unfoldable pub IsCodeTold : Option (List ℕ) → Type 0
-IsCodeTold None = Unit {0}
-IsCodeTold (Some code) = (length code ≡ 2) × (code ≢ codes "--")
+-- no cryptogram, or one with the same two bytes of its counter
+unfoldable pub SameLast : Option (ℕ × List ℕ) → Option (ℕ × List ℕ) → Type 0
+SameLast None None = ⊤
+SameLast (Some last) (Some other) = (two_bytes last.0 ≡ two_bytes other.0) × (last.1 ≡ other.1)
+SameLast a b = ⊥
 
--- a counter of two bytes, and a cryptogram
-unfoldable pub IsLastTold : Option (ℕ × List ℕ) → Type 0
-IsLastTold None = Unit {0}
-IsLastTold (Some last) = (last.0 < 2 ^ 16) × AreBytes last.1
+-- how a purchase ended: five bytes of verification results, two of status information, a code by its characters, and the
+-- results of the scripts
+pub record SameParts (a b : EndParts) : Type 0 where
+  pub ending : SameEnding a.ending b.ending
+  pub tvr : tvr_bytes a.tvr.0 ≡ tvr_bytes b.tvr.0
+  pub tsi : two_bytes a.tsi.0 ≡ two_bytes b.tsi.0
+  pub cvm : a.cvm ≡ b.cvm
+  pub code : arc_text a.arc ≡ arc_text b.arc
+  pub last : SameLast a.atc_ac b.atc_ac
+  pub scripts : a.scripts.items ≡ b.scripts.items
 
--- the result of a script has five bytes (EMV 4.3 Book 4 Annex A5)
-abbrev pub IsResult : List ℕ → Type 0
-IsResult result = (length result ≡ 5) × AreBytes result
+-- two lines of one kind that show the same
+unfoldable pub ShowsAs : Line → Line → Type 0
+ShowsAs (Power lane card apps) (Power l c shown) = SameNumber lane l × (card.items ≡ c.items) × AllZip SameCounters apps.items shown.items
+ShowsAs (PowerCanned lane card) (PowerCanned l c) = SameNumber lane l × (card.items ≡ c.items)
+ShowsAs (PowerTorn lane card) (PowerTorn l c) = SameNumber lane l × (card.items ≡ c.items)
+ShowsAs (ToCard lane bytes) (ToCard l bs) = SameNumber lane l × (bytes.items ≡ bs.items)
+ShowsAs (FromCard lane bytes) (FromCard l bs) = SameNumber lane l × (bytes.items ≡ bs.items)
+ShowsAs (Torn lane) (Torn l) = SameNumber lane l
+ShowsAs (Gone lane) (Gone l) = SameNumber lane l
+ShowsAs (ToHost lane bytes) (ToHost l bs) = SameNumber lane l × (bytes.items ≡ bs.items)
+ShowsAs (FromHost lane bytes) (FromHost l bs) = SameNumber lane l × (bytes.items ≡ bs.items)
+ShowsAs (NoReply lane) (NoReply l) = SameNumber lane l
+ShowsAs (End lane number parts) (End l n ps) = SameNumber lane l × SameNumber number n × SameParts parts ps
+ShowsAs (EndLost lane number) (EndLost l n) = SameNumber lane l × SameNumber number n
+ShowsAs (SettleCall lane bytes) (SettleCall l bs) = SameNumber lane l × (bytes.items ≡ bs.items)
+ShowsAs (SettleReply lane bytes) (SettleReply l bs) = SameNumber lane l × (bytes.items ≡ bs.items)
+ShowsAs (AuditPower card apps) (AuditPower c shown) = (card.items ≡ c.items) × AllZip SameCounters apps.items shown.items
+ShowsAs (AuditAsk card bytes) (AuditAsk c bs) = (card.items ≡ c.items) × (bytes.items ≡ bs.items)
+ShowsAs (AuditAnswer card bytes) (AuditAnswer c bs) = (card.items ≡ c.items) × (bytes.items ≡ bs.items)
+ShowsAs (Balance pan amount) (Balance p a) = (pan ≡ p) × (signed_decimal amount ≡ signed_decimal a)
+ShowsAs (Done number) (Done n) = SameNumber number n
+ShowsAs (Object tag value) (Object t v) = SameTag tag t × (value.items ≡ v.items)
+ShowsAs ReadOk ReadOk = ⊤
+ShowsAs (ReadEnded ending) (ReadEnded e) = SameEnding ending e
+ShowsAs a b = ⊥
 
-pub record ArePartsTold (parts : EndParts) : Type 0 where
-  pub ending : IsEndingTold parts.ending
-  pub tvr : parts.tvr.0 < 2 ^ 40
-  pub tsi : parts.tsi.0 < 2 ^ 16
-  pub cvm : AreBytes parts.cvm
-  pub code : IsCodeTold parts.arc
-  pub last : IsLastTold parts.atc_ac
-  pub scripts : All IsResult parts.scripts.items
-
--- what a line of a run keeps to
-unfoldable pub IsTellable : Line → Type 0
-IsTellable (Power lane card apps) = IsCount lane × IsCardName card.items × All AreCounters apps.items
-IsTellable (PowerCanned lane card) = IsCount lane × IsCardName card.items
-IsTellable (PowerTorn lane card) = IsCount lane × IsCardName card.items
-IsTellable (ToCard lane bytes) = IsCount lane × AreBytes bytes.items
-IsTellable (FromCard lane bytes) = IsCount lane × AreBytes bytes.items
-IsTellable (Torn lane) = IsCount lane
-IsTellable (Gone lane) = IsCount lane
-IsTellable (ToHost lane bytes) = IsCount lane × AreBytes bytes.items
-IsTellable (FromHost lane bytes) = IsCount lane × AreBytes bytes.items
-IsTellable (NoReply lane) = IsCount lane
-IsTellable (End lane number parts) = IsCount lane × IsCount number × ArePartsTold parts
-IsTellable (EndLost lane number) = IsCount lane × IsCount number
-IsTellable (SettleCall lane bytes) = IsCount lane × AreBytes bytes.items
-IsTellable (SettleReply lane bytes) = IsCount lane × AreBytes bytes.items
-IsTellable (AuditPower card apps) = IsCardName card.items × All AreCounters apps.items
-IsTellable (AuditAsk card bytes) = IsCardName card.items × AreBytes bytes.items
-IsTellable (AuditAnswer card bytes) = IsCardName card.items × AreBytes bytes.items
-IsTellable (Balance pan amount) = mag amount < 2 ^ 127
-IsTellable (Done number) = IsCount number
-IsTellable (Object tag value) = IsTag tag.0 × AreBytes value.items
-IsTellable ReadOk = Unit {0}
-IsTellable (ReadEnded ending) = IsEndingTold ending
-
--- two lines of runs that have one text are one line
+-- two lines that have one text show the same
 abbrev pub LinesDiffer : Type 0
-LinesDiffer = (a b : Line) → IsTellable a → IsTellable b → line_text a ≡ line_text b → a ≡ b
+LinesDiffer = (a b : Line) → IsTold a → IsTold b → line_text a ≡ line_text b → ShowsAs a b
 
--- two reports of runs that have one text, which is that of their lines one behind the other, have the same lines
+-- two reports that have one text, which is that of their lines one behind the other, have as many lines, and each shows
+-- what the other's does
 abbrev pub ReportsDiffer : Type 0
-ReportsDiffer = (a b : List Line) → All IsTellable a → All IsTellable b → flat_map line_text a ≡ flat_map line_text b → a ≡ b
+ReportsDiffer = (a b : List Line) → All IsTold a → All IsTold b → flat_map line_text a ≡ flat_map line_text b → AllZip ShowsAs a b

@@ -1,3 +1,3 @@
 pub mod Entries
-pub mod Taking
 pub mod Tracing
+pub mod Turning

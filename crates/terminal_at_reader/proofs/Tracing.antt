@@ -1,18 +1,26 @@
--- A dialogue that is over is a trace that is the same as its terminal's.
-use Rattle.std.proofs.Common.{◌≡◌, Ok, inl, inr, ℕ, Bool, true, false, List, [], ◌∷◌, ◌++◌, Option, Some, None, refl, sym, ap, subst, ◌∙◌, append_assoc, if◌then◌else◌}
+-- A talk that is at its end is each purchase's dialogue, one behind the other.
+use Rattle.std.proofs.Common.{◌≡◌, ◌+◌, Ok, inl, inr, ℕ, Bool, true, false, List, [], ◌∷◌, ◌++◌, Option, Some, None, refl, sym, ap, subst, ◌∙◌, append_assoc, if◌then◌else◌, slice_get}
+use Rattle.std.proofs.lemmas.List.{append-nil}
+use Rattle.std.proofs.lemmas.List.Concat.{flat_map-append}
+use Rattle.std.proofs.lemmas.Slice.Eq.{bytes_eq-Decides}
 use Rattle.std.specs.Io.KnownBytes.{Appends, Consumes}
+use Rattle.std.specs.List.{flat_map}
+use Rattle.std.specs.Prelude.{option_to_list}
+use Rattle.std.specs.Str.{bytes_eq}
 use Rattle.emv_dict.specs.declared.ending.Ending.{Ending}
+use Rattle.emv_dict.specs.declared.purchase.Logged.{Logged}
 use Rattle.kernel.specs.Dialogue.{dialogue}
+use Rattle.kernel.specs.EndShown.{EndShown}
 use Rattle.kernel.specs.Reply.{Reply, Deed}
 use Rattle.kernel.specs.Reply as deeds
-use Rattle.std.proofs.lemmas.Slice.Eq.{bytes_eq-Decides}
-use Rattle.std.specs.Str.{bytes_eq}
 use Rattle.line_talk.proofs.Talking.{onward_more}
+use Rattle.line_talk.specs.Coming.{Comes}
 use Rattle.line_talk.specs.Talk as talk
-use Rattle.line_talk.specs.Talk.{EndsDocument, EndsWith, HasTalked, Served, Sides, TalkEnds, WritesFault, WritesLast}
-use Rattle.line_talk.specs.Turns.{Opening, Turn, answers_of, lines_spoken, may_end, onward_behind}
+use Rattle.line_talk.specs.Talk.{EndsDocument, EndsWith, HasTalked, Served, Sides, TalkEnds, WritesFault, WritesLast, other_line}
+use Rattle.line_talk.specs.Turns.{GoesOn, Opening, Turn, answers_of, lines_spoken, may_end, onward_behind}
+use Rattle.line_talk.specs.declared.line.Came.TheVariants as came
 use Rattle.line_talk.specs.declared.party.Onward.{Onward}
-use Rattle.line_talk.specs.declared.party.Onward.TheVariants.{Awaits, Rests, Over, Stuck}
+use Rattle.line_talk.specs.declared.party.Onward.TheVariants as way
 use Rattle.line_talk.specs.declared.status.Status.{Status}
 use Rattle.line_talk.specs.declared.status.Status.TheVariants.{Done, Refused, Unserved, SourceFailed, SinkFailed, OutOfMemory}
 use Rattle.scenario_lanes.specs.Plan.{LaneData}
@@ -20,211 +28,477 @@ use Rattle.scenario_lanes.specs.declared.plan.Planned.{Planned}
 use Rattle.terminal_state.specs.Terminal.{Outset}
 use Rattle.trace_check.proofs.Lawful.{same_is_dialogue}
 use Rattle.trace_check.proofs.Spelling.{text_is}
-use Rattle.trace_check.specs.Dialogues.{entry_of_standing, is_awaited, reply_of_entry}
-use Rattle.trace_check.specs.Laws.{IsDialogue, over, answered}
+use Rattle.trace_check.specs.Dialogues.{entry_of_standing, is_awaited, reply_with_log}
+use Rattle.trace_check.specs.Laws.{IsDialogue, over}
+use Rattle.trace_check.specs.Laws as laws
 use Rattle.trace_check.specs.Texts.{entry_of_text}
-use Rattle.trace_check.specs.Verdicts.{verdict_on}
+use Rattle.trace_check.specs.Verdicts.{verdict_of}
+use Rattle.trace_check.specs.declared.compare.Verdict.TheVariants.{Same}
 use Rattle.trace_check.specs.declared.entry.Entry.{Entry}
+use Rattle.terminal_at_reader.proofs.Entries.{ask_unheard, over_of}
 use Rattle.terminal_at_reader.specs.Document.{ReadsTerminal}
 use Rattle.terminal_at_reader.specs.Hearing.{fault_line, understood, unread}
-use Rattle.terminal_at_reader.specs.Talk.{AreEntries, IsTerminalTalk, TerminalTalked, TerminalTurn, ask_at, asked_line, asked_turn, asks, asks_again, begins, goes, goes_on, onward_at, onward_of, reply_if_entry, terminal_opening, terminal_turn, told_of, turn_with, want_line}
-use Rattle.terminal_at_reader.specs.Top.{HadDialogue, IsOnly, IsTraced, terminal_programme}
+use Rattle.terminal_at_reader.specs.Settlement.{settlement_reply}
+use Rattle.terminal_at_reader.specs.Talk.{AreEntries, Doing, IsTerminalTalk, Pays, Rests, Settles, TerminalTalked, TerminalTurn, ask_at, asked_line, asked_turn, asks, asks_again, begins, end_shown_at, first_turn, goes, goes_on, next_line, next_turn, other_turn, outset_of_planned, paying_turn, reply_if_entry, resting_turn, settle_line, settlement_turn, settling_turn, terminal_opening, terminal_turn, told_of, turn_at, turn_by_end, turn_if_captured, turn_if_planned, turn_if_reply, turn_with, want_line}
+use Rattle.terminal_at_reader.specs.Till.{TillData, approval_logged, new_till, till_ended}
+use Rattle.terminal_at_reader.specs.Top.{ArePaid, HadDialogues, IsPaid, between, paid, replies_heard, terminal_programme, unpaid, written_last}
 
-module _ (iso : Bool) (outset : Outset) where
+-- what was written last
+written_more : (first : List ℕ) (turns : List Turn) (one : Turn) → written_last first (turns ++ one ∷ []) ≡ one.answer
+written_more first [] one = refl
+written_more first (turn ∷ turns) one = written_more turn.answer turns one
+
+module _ (iso : Bool) (log : List Logged) (outset : Outset) where
   -- what was asked up to these replies, each time followed by the reply
   data Exchanges : List Reply → List Entry → Type 0 where
     none : Exchanges [] []
-    more : (replies : List Reply) (entries : List Entry) → Exchanges replies entries → (entry : Entry) (reply : Reply) → reply_of_entry entry ≡ Some reply
+    more : (replies : List Reply) (entries : List Entry) → Exchanges replies entries → (entry : Entry) (reply : Reply) → reply_with_log log entry ≡ Some reply
         → is_awaited (dialogue outset replies).deed reply ≡ true
         → Exchanges (replies ++ reply ∷ []) (entries ++ entry_of_standing outset (dialogue outset replies) ∷ entry ∷ [])
 
   -- exchanges, and what is left of their dialogue
-  joined : (replies : List Reply) (entries : List Entry) → Exchanges replies entries → (later : List Entry) → IsDialogue outset replies later
-      → IsDialogue outset [] (entries ++ later)
+  joined : (replies : List Reply) (entries : List Entry) → Exchanges replies entries → (later : List Entry) → IsDialogue log outset replies later
+      → IsDialogue log outset [] (entries ++ later)
   joined replies entries none later is = is
   joined replies entries (more before earlier exchanges entry reply told awaited) later is =
       let ask = entry_of_standing outset (dialogue outset before) in
-      subst (λ (all : List Entry). IsDialogue outset [] all) (sym (append_assoc earlier (ask ∷ entry ∷ []) later))
-      (joined before earlier exchanges (ask ∷ entry ∷ later) (answered before entry reply later told awaited is))
+      subst (λ (all : List Entry). IsDialogue log outset [] all) (sym (append_assoc earlier (ask ∷ entry ∷ []) later))
+      (joined before earlier exchanges (ask ∷ entry ∷ later) (laws.answered before entry reply later told awaited is))
 
-  -- a talk as exchanges: the entries of its lines, with what is asked next
-  record AsExchanges (turns : List Turn) (replies : List Reply) : Type 0 where
+  abbrev heard_in : Entry → List Reply
+  heard_in entry = option_to_list (reply_with_log log entry)
+
+  none_heard : (replies : List Reply) → heard_in (entry_of_standing outset (dialogue outset replies)) ≡ []
+  none_heard replies =
+      let at = dialogue outset replies in ap (λ (r : Option Reply). option_to_list r) (ask_unheard log outset at.steps_done at.deed)
+
+  -- the replies of exchanges
+  heard_all : (replies : List Reply) (entries : List Entry) → Exchanges replies entries → (later : Entry) → heard_in later ≡ []
+      → replies_heard log (entries ++ later ∷ []) ≡ replies
+  heard_all replies entries none later silent = ap (λ (r : List Reply). r ++ []) silent
+  heard_all replies entries (more before earlier exchanges entry reply told awaited) later silent =
+      let ask = entry_of_standing outset (dialogue outset before) in
+      let one : heard_in entry ≡ reply ∷ [] = ap (λ (r : Option Reply). option_to_list r) told in
+      let front : flat_map heard_in earlier ≡ before =
+      sym (append-nil (flat_map heard_in earlier)) ∙ sym (ap (λ (r : List Reply). flat_map heard_in earlier ++ (r ++ [])) (none_heard before))
+      ∙ sym (flat_map-append heard_in earlier (ask ∷ [])) ∙ heard_all before earlier exchanges ask (none_heard before) in
+      ap (λ (es : List Entry). flat_map heard_in es) (append_assoc earlier (ask ∷ entry ∷ []) (later ∷ []))
+      ∙ flat_map-append heard_in earlier (ask ∷ entry ∷ later ∷ [])
+      ∙ ap (λ (r : List Reply). r ++ (heard_in ask ++ (heard_in entry ++ (heard_in later ++ [])))) front
+      ∙ ap (λ (r : List Reply). before ++ (r ++ (heard_in entry ++ (heard_in later ++ [])))) (none_heard before)
+      ∙ ap (λ (r : List Reply). before ++ (r ++ (heard_in later ++ []))) one
+      ∙ ap (λ (r : List Reply). before ++ (reply ∷ (r ++ []))) silent
+
+  -- the lines of a purchase as exchanges: the entries of its lines, with what is asked next
+  record AsExchanges (first : List ℕ) (turns : List Turn) (replies : List Reply) : Type 0 where
     entries : List Entry
     exchanges : Exchanges replies entries
-    are : AreEntries iso (asked_line iso outset []) turns (entries ++ ask_at outset replies ∷ [])
-    onward_is : onward_behind (onward_at outset []) turns ≡ onward_at outset replies
+    are : AreEntries iso first turns (entries ++ ask_at outset replies ∷ [])
 
-  abbrev one_turn : List ℕ → TerminalTurn → Turn
-  one_turn line turn = record { line = line; answer = turn.answer; onward = turn.onward }
-
-  module _ (turns : List Turn) (replies : List Reply) (line : List ℕ) (far : AsExchanges turns replies) where
-    -- what turn it may be
-    abbrev Behind : TerminalTurn → Type 0
-    Behind turn =
-        (onward_behind (onward_at outset []) (turns ++ one_turn line turn ∷ []) ≡ Stuck → ⊥) → AsExchanges (turns ++ one_turn line turn ∷ []) turn.after
-
+  module _ (first : List ℕ) (turns : List Turn) (replies : List Reply) (till : TillData) (line : List ℕ) (far : AsExchanges first turns replies) where
     -- one more reply was taken
-    taken : (said : Entry) (reply : Reply) → entry_of_text line ≡ Some said → reply_of_entry (understood iso said) ≡ Some reply
-        → is_awaited (dialogue outset replies).deed reply ≡ true
-        → AsExchanges (turns ++ one_turn line (asked_turn iso outset (fault_line (unread iso said)) (replies ++ reply ∷ [])) ∷ []) (replies ++ reply ∷ [])
-    taken said reply is heard awaited =
+    taken : (said : Entry) (reply : Reply) (one : Turn) → entry_of_text line ≡ Some said → reply_with_log log (understood iso said) ≡ Some reply
+        → is_awaited (dialogue outset replies).deed reply ≡ true → one.line ≡ line
+        → one.answer ≡ fault_line (unread iso said) ++ asked_line iso outset (replies ++ reply ∷ [])
+        → AsExchanges first (turns ++ one ∷ []) (replies ++ reply ∷ [])
+    taken said reply one is heard awaited says answers =
         let ask = ask_at outset replies in
         let later = ask_at outset (replies ++ reply ∷ []) in
-        let one : Turn = one_turn line (asked_turn iso outset (fault_line (unread iso said)) (replies ++ reply ∷ [])) in
         record {
           entries = far.entries ++ ask ∷ understood iso said ∷ [];
           exchanges = more replies far.entries far.exchanges (understood iso said) reply heard awaited;
           are =
-              subst (λ (es : List Entry). AreEntries iso (asked_line iso outset []) (turns ++ one ∷ []) es)
+              subst (λ (es : List Entry). AreEntries iso first (turns ++ one ∷ []) es)
               (append_assoc far.entries (ask ∷ []) (understood iso said ∷ later ∷ []) ∙ sym (append_assoc far.entries (ask ∷ understood iso said ∷ []) (later ∷ [])))
-              (goes_on turns (far.entries ++ ask ∷ []) said later one far.are (text_is line said is).0 refl);
-          onward_is = onward_more (onward_at outset []) turns one;
+              (goes_on turns (far.entries ++ ask ∷ []) said later one far.are (says ∙ (text_is line said is).0) answers);
         }
 
     -- what was asked was asked once more
-    again : bytes_eq line want_line ≡ true → AsExchanges (turns ++ one_turn line (asked_turn iso outset [] replies) ∷ []) replies
-    again is =
-        let one : Turn = one_turn line (asked_turn iso outset [] replies) in
-        record {
-          entries = far.entries;
-          exchanges = far.exchanges;
-          are = asks_again turns far.entries (ask_at outset replies) one far.are ((bytes_eq-Decides line want_line).0 is) refl;
-          onward_is = onward_more (onward_at outset []) turns one;
-        }
+    again : (one : Turn) → bytes_eq line want_line ≡ true → one.line ≡ line → one.answer ≡ asked_line iso outset replies → AsExchanges first (turns ++ one ∷ []) replies
+    again one is says answers = record {
+      entries = far.entries;
+      exchanges = far.exchanges;
+      are = asks_again turns far.entries (ask_at outset replies) one far.are (says ∙ (bytes_eq-Decides line want_line).0 is) answers;
+    }
 
-    stuck_is : (answer : List ℕ) → onward_behind (onward_at outset []) (turns ++ record { line = line; answer = answer; onward = Stuck } ∷ []) ≡ Stuck
-    stuck_is answer = onward_more (onward_at outset []) turns (record { line = line; answer = answer; onward = Stuck })
+-- how the talk goes on where the terminal is at this
+abbrev onward_for : Doing → Onward
+onward_for (Pays outset replies) = way.Awaits
+onward_for Rests = way.Rests
+onward_for (Settles answered) = way.Awaits
 
-    by_awaited : (said : Entry) (reply : Reply) → entry_of_text line ≡ Some said → reply_of_entry (understood iso said) ≡ Some reply → (awaited : Bool)
-        → is_awaited (dialogue outset replies).deed reply ≡ awaited → Behind (turn_with iso outset replies (fault_line (unread iso said)) (Some reply))
-    by_awaited said reply is heard true awaited goes_so = rw awaited (taken said reply is heard awaited)
-    by_awaited said reply is heard false awaited goes_so = absurd (goes_so (rw awaited (stuck_is talk.other_line)))
+module _ (lane : LaneData) where
+  abbrev first_written : List ℕ
+  first_written = (terminal_opening lane).text
 
-    by_reply : (said : Entry) → entry_of_text line ≡ Some said → (reply : Option Reply) → reply_of_entry (understood iso said) ≡ reply
-        → Behind (turn_with iso outset replies (fault_line (unread iso said)) reply)
-    by_reply said is None heard goes_so = absurd (goes_so (stuck_is talk.other_line))
-    by_reply said is (Some reply) heard goes_so = by_awaited said reply is heard (is_awaited (dialogue outset replies).deed reply) refl goes_so
+  -- a purchase runs: those before it, and its own lines
+  record Running (turns : List Turn) (outset : Outset) (replies : List Reply) (till : TillData) : Type 0 where
+    before : List Turn
+    mine : List Turn
+    split : turns ≡ before ++ mine
+    number : ℕ
+    number_is : till.begun ≡ number + 1
+    planned : Planned
+    planned_is : slice_get lane.purchases number ≡ Some planned
+    outset_is : outset ≡ outset_of_planned lane planned
+    paid_before : ArePaid lane first_written before number till.log
+    exchanges : AsExchanges lane.iso till.log outset (written_last first_written before) mine replies
 
-    by_entry : (said : Option Entry) → entry_of_text line ≡ said → Behind (turn_with iso outset replies (told_of iso said) (reply_if_entry iso said))
-    by_entry None is goes_so = absurd (goes_so (stuck_is talk.other_line))
-    by_entry (Some said) is goes_so = by_reply said is (reply_of_entry (understood iso said)) refl goes_so
+  abbrev Came : List Turn → Doing → TillData → Type 0
+  Came turns (Pays outset replies) till = Running turns outset replies till
+  Came turns Rests till = ArePaid lane first_written turns till.begun till.log
+  Came turns (Settles answered) till = ArePaid lane first_written turns till.begun till.log
+
+  record Far (turns : List Turn) (turn : TerminalTurn) : Type 0 where
+    onward_is : turn.onward ≡ onward_for turn.doing
+    came : Came turns turn.doing turn.till
+
+  -- a purchase is whole
+  whole : (turns : List Turn) (outset : Outset) (replies : List Reply) (till : TillData) (end : EndShown) → Running turns outset replies till
+      → end_shown_at outset replies ≡ Some end → ArePaid lane first_written turns till.begun (till.log ++ approval_logged outset.purchase.amount end.ending end.pan)
+  whole turns outset replies till end runs ended =
+      let at = dialogue outset replies in
+      let ask = ask_at outset replies in
+      let ending = over_of outset at.steps_done at.deed end ended in
+      let far = runs.exchanges in
+      let all = far.entries ++ ask ∷ [] in
+      let dialogue_is : IsDialogue till.log outset [] all =
+      joined lane.iso till.log outset replies far.entries far.exchanges (ask ∷ []) (over replies ending.0 ending.1) in
+      let heard : replies_heard till.log all ≡ replies =
+      heard_all lane.iso till.log outset replies far.entries far.exchanges ask (none_heard lane.iso till.log outset replies) in
+      let ends : end_shown_at outset (replies_heard till.log all) ≡ Some end = ap (λ (r : List Reply). end_shown_at outset r) heard ∙ ended in
+      let of_first : (log : List Logged) → log ≡ [] → IsDialogue log outset [] all
+      → verdict_of (record { lane = record lane { purchases = runs.planned ∷ [] }; entries = all }) ≡ Same =
+      λ log empty is.
+      (same_is_dialogue (outset_of_planned lane runs.planned) all).1
+      (subst (λ (d : Outset). IsDialogue [] d [] all) runs.outset_is (subst (λ (l : List Logged). IsDialogue l outset [] all) empty is)) in
+      let one : IsPaid lane runs.planned till.log (written_last first_written runs.before) runs.mine end = record {
+        entries = all;
+        are = far.are;
+        whole = subst (λ (d : Outset). IsDialogue till.log d [] all) runs.outset_is dialogue_is;
+        ends = subst (λ (d : Outset). end_shown_at d (replies_heard till.log all) ≡ Some end) runs.outset_is ends;
+        same = λ empty. of_first till.log empty dialogue_is;
+      } in
+      let so = paid runs.before runs.mine runs.number till.log runs.planned end runs.paid_before runs.planned_is one in
+      subst (λ (ts : List Turn). ArePaid lane first_written ts till.begun (till.log ++ approval_logged outset.purchase.amount end.ending end.pan)) (sym runs.split)
+      (subst (λ (n : ℕ). ArePaid lane first_written (runs.before ++ runs.mine) n (till.log ++ approval_logged outset.purchase.amount end.ending end.pan)) (sym runs.number_is)
+      (subst (λ (d : Outset). ArePaid lane first_written (runs.before ++ runs.mine) (runs.number + 1) (till.log ++ approval_logged d.purchase.amount end.ending end.pan)) (sym runs.outset_is) so))
+
+  -- where a purchase stands behind its lines
+  stands_by : (turns : List Turn) (outset : Outset) (replies : List Reply) (till : TillData) (text : List ℕ) (end : Option EndShown) → Running turns outset replies till
+      → end_shown_at outset replies ≡ end → Far turns (turn_by_end outset replies till text end)
+  stands_by turns outset replies till text None runs is = record { onward_is = refl; came = runs }
+  stands_by turns outset replies till text (Some end) runs is = record { onward_is = refl; came = whole turns outset replies till end runs is }
+
+  stands : (turns : List Turn) (outset : Outset) (replies : List Reply) (till : TillData) (told : List ℕ) → Running turns outset replies till
+      → Far turns (asked_turn lane.iso outset replies till told)
+  stands turns outset replies till told runs =
+      stands_by turns outset replies till (told ++ asked_line lane.iso outset replies) (end_shown_at outset replies) runs refl
+
+  -- what turn it may be: none behind which no line follows
+  abbrev Goes : List Turn → TerminalTurn → Type 0
+  Goes turns turn = (turn.onward ≡ way.Stuck → ⊥) → Far turns turn
+
+  not_stuck : (turns : List Turn) (doing : Doing) (till : TillData) → Goes turns (other_turn way.Stuck doing till)
+  not_stuck turns doing till may = absurd (may refl)
+
+  -- a line of a purchase
+  module _ (turns : List Turn) (outset : Outset) (replies : List Reply) (till : TillData) (line : List ℕ) (runs : Running turns outset replies till) where
+    more_of : (one : Turn) (later : List Reply) → AsExchanges lane.iso till.log outset (written_last first_written runs.before) (runs.mine ++ one ∷ []) later
+        → Running (turns ++ one ∷ []) outset later till
+    more_of one later exchanges = record {
+      before = runs.before;
+      mine = runs.mine ++ one ∷ [];
+      split = ap (λ (ts : List Turn). ts ++ one ∷ []) runs.split ∙ append_assoc runs.before runs.mine (one ∷ []);
+      number = runs.number;
+      number_is = runs.number_is;
+      planned = runs.planned;
+      planned_is = runs.planned_is;
+      outset_is = runs.outset_is;
+      paid_before = runs.paid_before;
+      exchanges = exchanges;
+    }
+
+    abbrev GoesBy : TerminalTurn → Type 0
+    GoesBy turn = Goes (turns ++ turn_at line turn ∷ []) turn
+
+    answer_is : (told : List ℕ) (later : List Reply) (end : Option EndShown)
+        → (turn_by_end outset later till (told ++ asked_line lane.iso outset later) end).answer ≡ told ++ asked_line lane.iso outset later
+    answer_is told later None = refl
+    answer_is told later (Some end) = refl
+
+    by_want : bytes_eq line want_line ≡ true → GoesBy (asked_turn lane.iso outset replies till [])
+    by_want is may =
+        let turn : TerminalTurn = asked_turn lane.iso outset replies till [] in
+        stands (turns ++ turn_at line turn ∷ []) outset replies till []
+        (more_of (turn_at line turn) replies
+        (again lane.iso till.log outset (written_last first_written runs.before) runs.mine replies till line runs.exchanges (turn_at line turn) is refl
+        (answer_is [] replies (end_shown_at outset replies))))
+
+    by_awaited : (said : Entry) (reply : Reply) → entry_of_text line ≡ Some said → reply_with_log till.log (understood lane.iso said) ≡ Some reply → (awaited : Bool)
+        → is_awaited (dialogue outset replies).deed reply ≡ awaited
+        → GoesBy (if awaited then asked_turn lane.iso outset (replies ++ reply ∷ []) till (fault_line (unread lane.iso said)) else other_turn way.Stuck (Pays outset replies) till)
+    by_awaited said reply is heard true awaited may =
+        let told = fault_line (unread lane.iso said) in
+        let later = replies ++ reply ∷ [] in
+        let turn : TerminalTurn = asked_turn lane.iso outset later till told in
+        stands (turns ++ turn_at line turn ∷ []) outset later till told
+        (more_of (turn_at line turn) later
+        (taken lane.iso till.log outset (written_last first_written runs.before) runs.mine replies till line runs.exchanges said reply (turn_at line turn) is heard awaited refl
+        (answer_is told later (end_shown_at outset later))))
+    by_awaited said reply is heard false awaited may = absurd (may refl)
+
+    by_reply : (said : Entry) → entry_of_text line ≡ Some said → (reply : Option Reply) → reply_with_log till.log (understood lane.iso said) ≡ reply
+        → GoesBy (turn_with lane.iso outset replies till (fault_line (unread lane.iso said)) reply)
+    by_reply said is None heard may = absurd (may refl)
+    by_reply said is (Some reply) heard may = by_awaited said reply is heard (is_awaited (dialogue outset replies).deed reply) refl may
+
+    by_entry : (said : Option Entry) → entry_of_text line ≡ said
+        → GoesBy (turn_with lane.iso outset replies till (told_of lane.iso said) (reply_if_entry lane.iso till.log said))
+    by_entry None is may = absurd (may refl)
+    by_entry (Some said) is may = by_reply said is (reply_with_log till.log (understood lane.iso said)) refl may
 
     by_line : (test : Bool) → bytes_eq line want_line ≡ test
-        → Behind (if test then asked_turn iso outset [] replies else turn_with iso outset replies (told_of iso (entry_of_text line)) (reply_if_entry iso (entry_of_text line)))
-    by_line true is goes_so = again is
-    by_line false other goes_so = by_entry (entry_of_text line) refl goes_so
+        → GoesBy (if test then asked_turn lane.iso outset replies till [] else turn_with lane.iso outset replies till (told_of lane.iso (entry_of_text line)) (reply_if_entry lane.iso till.log (entry_of_text line)))
+    by_line true is may = by_want is may
+    by_line false other may = by_entry (entry_of_text line) refl may
 
-  never_both : (onward : Onward) → onward ≡ Awaits → onward ≡ Stuck → ⊥
-  never_both onward awaits stuck = let clash : Awaits ≡ Stuck = sym awaits ∙ stuck in cc clash
+    in_purchase : GoesBy (paying_turn lane.iso outset replies till line)
+    unfolding paying_turn
+    in_purchase may = by_line (bytes_eq line want_line) refl may
 
-  as_exchanges : (turns : List Turn) (replies : List Reply) → TerminalTalked iso outset turns replies → (onward_behind (onward_at outset []) turns ≡ Stuck → ⊥) → AsExchanges turns replies
-  unfolding terminal_turn onward_behind
-  as_exchanges turns replies begins goes_so = record {
-    entries = [];
-    exchanges = none;
-    are = asks (ask_at outset []) refl;
-    onward_is = refl;
-  }
-  as_exchanges turns replies (goes before earlier line talked awaits) goes_so =
-      by_line before earlier line (as_exchanges before earlier talked (never_both (onward_behind (onward_at outset []) before) awaits)) (bytes_eq line want_line) refl goes_so
+  -- a line between purchases
+  module _ (turns : List Turn) (till : TillData) (line : List ℕ) (are : ArePaid lane first_written turns till.begun till.log) where
+    abbrev GoesAside : TerminalTurn → Type 0
+    GoesAside turn = Far (turns ++ turn_at line turn ∷ []) turn
 
-  -- a dialogue that is over, whole
-  ending_of : (deed : Deed) → onward_of deed ≡ Over → (ending : Ending) × (deed ≡ deeds.Over ending)
-  ending_of (deeds.ToCard command) over_is = absurd (cc over_is)
-  ending_of (deeds.ToHost message) over_is = absurd (cc over_is)
-  ending_of (deeds.Over ending) over_is = (ending, refl)
+    aside : (one : Turn) → ArePaid lane first_written (turns ++ one ∷ []) till.begun till.log
+    aside one = between turns one till.begun till.log are
 
-  over_is_whole : (lane : LaneData) → lane.iso ≡ iso → IsOnly lane outset → (s : Sides) (turns : List Turn)
-      → HasTalked (IsTerminalTalk iso outset) (terminal_opening iso outset) s.first s.left s.before s.held turns
-      → onward_behind (onward_at outset []) turns ≡ Over → IsTraced lane s
-  over_is_whole lane dialect only s turns talked ended =
-      let far = as_exchanges turns talked.talks.0 talked.talks.1 (λ stuck. let clash : Over ≡ Stuck = sym ended ∙ stuck in cc clash) in
-      let replies = talked.talks.0 in
-      let ask = ask_at outset replies in
-      let ending = ending_of (dialogue outset replies).deed (sym far.onward_is ∙ ended) in
-      let whole = joined replies far.entries far.exchanges (ask ∷ []) (over replies ending.0 ending.1) in
-      record {
-        first = asked_line iso outset [];
-        turns = turns;
-        entries = far.entries ++ ask ∷ [];
-        are = subst (λ (i : Bool). AreEntries i (asked_line iso outset []) turns (far.entries ++ ask ∷ [])) (sym dialect) far.are;
-        same =
-            ap (λ (ps : List Planned). verdict_on lane.settings ps (far.entries ++ ask ∷ [])) only.one
-            ∙ (same_is_dialogue (record { settings = lane.settings; purchase = only.planned.purchase }) (far.entries ++ ask ∷ [])).1
-            (subst (λ (d : Outset). IsDialogue d [] (far.entries ++ ask ∷ [])) only.outset_is whole);
-        taken = talked.taken;
-        told = talked.told;
-      }
+    rests_on : GoesAside (other_turn way.Rests Rests till)
+    rests_on = record { onward_is = refl; came = aside (turn_at line (other_turn way.Rests Rests till)) }
 
-  -- it never rests
-  deed_rests : (deed : Deed) → may_end (onward_of deed) ≡ true → ⊥
-  deed_rests (deeds.ToCard command) rests = absurd (cc rests)
-  deed_rests (deeds.ToHost message) rests = absurd (cc rests)
-  deed_rests (deeds.Over ending) rests = absurd (cc rests)
+    by_planned : (planned : Option Planned) → slice_get lane.purchases till.begun ≡ planned → GoesAside (turn_if_planned lane till planned)
+    by_planned None is = rests_on
+    by_planned (Some planned) is =
+        let outset : Outset = outset_of_planned lane planned in
+        let began : TillData = record till { begun = till.begun + 1 } in
+        let turn : TerminalTurn = asked_turn lane.iso outset [] began [] in
+        let one : Turn = turn_at line turn in
+        let answer : (end : Option EndShown) → (turn_by_end outset [] began (asked_line lane.iso outset []) end).answer ≡ asked_line lane.iso outset [] =
+        λ end. elim end as (λ e. (turn_by_end outset [] began (asked_line lane.iso outset []) e).answer ≡ asked_line lane.iso outset []) [ None ↦ refl | Some shown ↦ refl ] in
+        stands (turns ++ one ∷ []) outset [] began []
+        (record {
+          before = turns ++ one ∷ [];
+          mine = [];
+          split = sym (append-nil (turns ++ one ∷ []));
+          number = till.begun;
+          number_is = refl;
+          planned = planned;
+          planned_is = is;
+          outset_is = refl;
+          paid_before = aside one;
+          exchanges = record {
+            entries = [];
+            exchanges = none;
+            are = asks (ask_at outset []) (written_more first_written turns one ∙ answer (end_shown_at outset []));
+          };
+        })
 
-  may_not : (onward : Onward) → onward ≡ Stuck → may_end onward ≡ true → ⊥
-  may_not onward stuck rests = let clash : false ≡ true = sym (ap may_end stuck) ∙ rests in cc clash
+    by_captured : (answered : ℕ) (told : List ℕ) (captured : Option (List ℕ)) → GoesAside (turn_if_captured lane.iso till answered told captured)
+    by_captured answered told None = record { onward_is = refl; came = aside (turn_at line (turn_if_captured lane.iso till answered told None)) }
+    by_captured answered told (Some message) = record { onward_is = refl; came = aside (turn_at line (turn_if_captured lane.iso till answered told (Some message))) }
 
-  pub never_rests : (turns : List Turn) → IsTerminalTalk iso outset turns → may_end (onward_behind (onward_at outset []) turns) ≡ true → ⊥
-  never_rests turns talk rests =
-      let far = as_exchanges turns talk.0 talk.1 (λ stuck. may_not (onward_behind (onward_at outset []) turns) stuck rests) in
-      deed_rests (dialogue outset talk.0).deed (sym (ap may_end far.onward_is) ∙ rests)
+    by_settle : (test : Bool) → GoesAside (if test then settlement_turn lane.iso till 0 [] else other_turn way.Rests Rests till)
+    by_settle true = by_captured 0 [] (slice_get till.captures 0)
+    by_settle false = rests_on
+
+    by_next : (test other : Bool)
+        → GoesAside (if test then next_turn lane till else if other then settlement_turn lane.iso till 0 [] else other_turn way.Rests Rests till)
+    by_next true other = by_planned (slice_get lane.purchases till.begun) refl
+    by_next false other = by_settle other
+
+    at_rest : GoesAside (resting_turn lane till line)
+    unfolding resting_turn
+    at_rest = by_next (bytes_eq line next_line) (bytes_eq line settle_line)
+
+    by_said : (answered : ℕ) (reply : Option (List ℕ)) → Goes (turns ++ turn_at line (turn_if_reply lane.iso till answered reply) ∷ []) (turn_if_reply lane.iso till answered reply)
+    by_said answered None may = absurd (may refl)
+    by_said answered (Some reply) may = by_captured (answered + 1) _ (slice_get till.captures (answered + 1))
+
+    by_wanted : (answered : ℕ) (test : Bool) → (let turn : TerminalTurn = (if test then settlement_turn lane.iso till answered [] else turn_if_reply lane.iso till answered (settlement_reply line)) in Goes (turns ++ turn_at line turn ∷ []) turn)
+    by_wanted answered true may = by_captured answered [] (slice_get till.captures answered)
+    by_wanted answered false may = by_said answered (settlement_reply line) may
+
+    in_settlement : (answered : ℕ) → Goes (turns ++ turn_at line (settling_turn lane.iso till answered line) ∷ []) (settling_turn lane.iso till answered line)
+    unfolding settling_turn
+    in_settlement answered may = by_wanted answered (bytes_eq line want_line) may
+
+  -- before the first line
+  at_first : (planned : Option Planned) → slice_get lane.purchases 0 ≡ planned → (turn : TerminalTurn) → turn_if_planned lane new_till planned ≡ turn
+      → first_written ≡ turn.answer → Far [] turn
+  at_first None is turn turn_is says = subst (λ (t : TerminalTurn). Far [] t) turn_is record { onward_is = refl; came = unpaid }
+  at_first (Some planned) is turn turn_is says =
+      let outset : Outset = outset_of_planned lane planned in
+      let began : TillData = record new_till { begun = new_till.begun + 1 } in
+      let answer : (end : Option EndShown) → (turn_by_end outset [] began (asked_line lane.iso outset []) end).answer ≡ asked_line lane.iso outset [] =
+      λ end. elim end as (λ e. (turn_by_end outset [] began (asked_line lane.iso outset []) e).answer ≡ asked_line lane.iso outset []) [ None ↦ refl | Some shown ↦ refl ] in
+      let written : first_written ≡ asked_line lane.iso outset [] =
+      says ∙ sym (ap (λ (t : TerminalTurn). t.answer) turn_is) ∙ answer (end_shown_at outset []) in
+      subst (λ (t : TerminalTurn). Far [] t) turn_is
+      (stands [] outset [] began []
+      (record {
+        before = [];
+        mine = [];
+        split = refl;
+        number = 0;
+        number_is = refl;
+        planned = planned;
+        planned_is = is;
+        outset_is = refl;
+        paid_before = unpaid;
+        exchanges = record { entries = []; exchanges = none; are = asks (ask_at outset []) written };
+      }))
+
+  by_turn : (turns : List Turn) (doing : Doing) (till : TillData) (line : List ℕ) → Came turns doing till
+      → Goes (turns ++ turn_at line (terminal_turn lane doing till line) ∷ []) (terminal_turn lane doing till line)
+  by_turn turns (Pays outset replies) till line came may = in_purchase turns outset replies till line came may
+  by_turn turns Rests till line came may = at_rest turns till line came
+  by_turn turns (Settles answered) till line came may = in_settlement turns till line came answered may
+
+  record Come (turns : List Turn) (doing : Doing) (till : TillData) : Type 0 where
+    onward_is : onward_behind (terminal_opening lane).onward turns ≡ onward_for doing
+    came : Came turns doing till
+
+  never_both : (onward : Onward) → GoesOn onward → onward ≡ way.Stuck → ⊥
+  never_both onward may stuck = subst GoesOn stuck may
+
+  come : (turns : List Turn) (doing : Doing) (till : TillData) → TerminalTalked lane turns doing till
+      → (onward_behind (terminal_opening lane).onward turns ≡ way.Stuck → ⊥) → Come turns doing till
+  unfolding onward_behind
+  come turns doing till begins may =
+      let far = at_first (slice_get lane.purchases 0) refl (first_turn lane) refl refl in record { onward_is = far.onward_is; came = far.came }
+  come turns doing till (goes before earlier was line talked went) may =
+      let turn : TerminalTurn = terminal_turn lane earlier was line in
+      let one : Turn = turn_at line turn in
+      let so = come before earlier was talked (never_both (onward_behind (terminal_opening lane).onward before) went) in
+      let far = by_turn before earlier was line so.came (λ stuck. may (onward_more (terminal_opening lane).onward before one ∙ stuck)) in
+      record { onward_is = onward_more (terminal_opening lane).onward before one ∙ far.onward_is; came = far.came }
+
+  -- it is never over, and where the lines may be at their end it rests
+  never_over : (doing : Doing) → way.Over ≡ onward_for doing → ⊥
+  never_over (Pays outset replies) is = cc is
+  never_over Rests is = cc is
+  never_over (Settles answered) is = cc is
+
+  rests_if : (doing : Doing) → may_end (onward_for doing) ≡ true → doing ≡ Rests
+  rests_if (Pays outset replies) may = absurd (cc may)
+  rests_if Rests may = refl
+  rests_if (Settles answered) may = absurd (cc may)
 
 -- which statuses there are
 not_last : (wanted status : Status) (before held : Option (List ℕ)) (text : List ℕ) → (wanted ≡ Done → ⊥) → WritesLast wanted status before held text → status ≡ Done → ⊥
 not_last wanted status before held text other (inl all) done = other (sym all.0 ∙ done)
 not_last wanted status before held text other (inr front) done = let clash : SinkFailed ≡ Done = sym front.0 ∙ done in cc clash
 
-is_over : (onward : Onward) (status : Status) → EndsWith onward status → status ≡ Done → onward ≡ Over
-is_over Awaits status ends done = absurd ends
-is_over Rests status ends done = absurd ends
-is_over Over status ends done = refl
-is_over Stuck status ends done = let clash : Unserved ≡ Done = sym ends ∙ done in absurd (cc clash)
+is_over : (onward : Onward) (status : Status) → EndsWith onward status → status ≡ Done → onward ≡ way.Over
+is_over way.Awaits status ends done = absurd ends
+is_over way.Rests status ends done = absurd ends
+is_over way.Over status ends done = refl
+is_over way.Stuck status ends done = let clash : Unserved ≡ Done = sym ends ∙ done in absurd (cc clash)
+
+may_not : (onward : Onward) → may_end onward ≡ true → onward ≡ way.Stuck → ⊥
+may_not onward may stuck = let clash : false ≡ true = sym (ap may_end stuck) ∙ may in cc clash
+
+over_not : (onward : Onward) → onward ≡ way.Over → onward ≡ way.Stuck → ⊥
+over_not onward ended stuck = let clash : way.Over ≡ way.Stuck = sym ended ∙ stuck in cc clash
 
 module _ (s : Sides) (bytes : List ℕ) where
   record WithLane : Type 0 where
     lane : LaneData
     reading : ReadsTerminal bytes (Ok lane)
-    traced : IsTraced lane s
+    turns : List Turn
+    till : TillData
+    talked : TerminalTalked lane turns Rests till
+    paid_are : ArePaid lane (terminal_opening lane).text turns till.begun till.log
+    told : Appends s.before s.held ((terminal_opening lane).text ++ answers_of turns)
+    left : Option (List ℕ)
+    rest : List ℕ
+    taken_to : Consumes s.first left (lines_spoken turns)
+    ended : Comes came.End left s.left rest
 
-  by_served : (opening : Opening) (left : Option (List ℕ)) (turns : List Turn) → terminal_programme.Talks bytes opening turns → Consumes s.first left (lines_spoken turns)
-      → Appends s.before s.held (opening.text ++ answers_of turns) → onward_behind opening.onward turns ≡ Over → left ≡ s.left → WithLane
-  by_served opening left turns (lane, reading, outset, only, opening_is, talk) taken told ended same = record {
-    lane = lane;
-    reading = reading;
-    traced = over_is_whole lane.iso outset lane refl only s turns
-        (record {
-          talks = talk;
-          taken = subst (λ (l : Option (List ℕ)). Consumes s.first l (lines_spoken turns)) same taken;
-          told = subst (λ (o : Opening). Appends s.before s.held (o.text ++ answers_of turns)) opening_is told;
-        }) (subst (λ (o : Opening). onward_behind o.onward turns ≡ Over) opening_is ended);
-  }
+  -- where the lines are at their end
+  at_the_end : (opening : Opening) (turns : List Turn) (left : Option (List ℕ)) (rest : List ℕ) → terminal_programme.Talks bytes opening turns
+      → Consumes s.first left (lines_spoken turns) → Appends s.before s.held (opening.text ++ answers_of turns) → Comes came.End left s.left rest
+      → may_end (onward_behind opening.onward turns) ≡ true → WithLane
+  at_the_end opening turns left rest (lane, reading, opening_is, talk_is) taken_to told ended may =
+      let doing = talk_is.0 in
+      let till = talk_is.1 in
+      let talked = talk_is.2 in
+      let may_so : may_end (onward_behind (terminal_opening lane).onward turns) ≡ true =
+      subst (λ (o : Opening). may_end (onward_behind o.onward turns) ≡ true) opening_is may in
+      let so = come lane turns doing till talked (may_not (onward_behind (terminal_opening lane).onward turns) may_so) in
+      let rests : doing ≡ Rests = rests_if lane doing (sym (ap may_end so.onward_is) ∙ may_so) in
+      record {
+        lane = lane;
+        reading = reading;
+        turns = turns;
+        till = till;
+        talked = subst (λ (d : Doing). TerminalTalked lane turns d till) rests talked;
+        paid_are = subst (λ (d : Doing). Came lane turns d till) rests so.came;
+        told = subst (λ (o : Opening). Appends s.before s.held (o.text ++ answers_of turns)) opening_is told;
+        left = left;
+        rest = rest;
+        taken_to = taken_to;
+        ended = ended;
+      }
 
-  no_rest : (opening : Opening) (turns : List Turn) → terminal_programme.Talks bytes opening turns → may_end (onward_behind opening.onward turns) ≡ true → ⊥
-  no_rest opening turns (lane, reading, outset, only, opening_is, talk) rests =
-      never_rests lane.iso outset turns talk (subst (λ (o : Opening). may_end (onward_behind o.onward turns) ≡ true) opening_is rests)
+  no_over : (opening : Opening) (turns : List Turn) → terminal_programme.Talks bytes opening turns → onward_behind opening.onward turns ≡ way.Over → ⊥
+  no_over opening turns (lane, reading, opening_is, talk_is) ended =
+      let doing = talk_is.0 in
+      let till = talk_is.1 in
+      let talked = talk_is.2 in
+      let ended_so : onward_behind (terminal_opening lane).onward turns ≡ way.Over = subst (λ (o : Opening). onward_behind o.onward turns ≡ way.Over) opening_is ended in
+      let so = come lane turns doing till talked (over_not (onward_behind (terminal_opening lane).onward turns) ended_so) in
+      never_over lane doing (sym ended_so ∙ so.onward_is)
 
   talk_traced : (opening : Opening) → (status : Status) → TalkEnds (terminal_programme.Talks bytes opening) opening s status → status ≡ Done → WithLane
   talk_traced opening status (talk.OpeningCut cut left front) done = let clash : SinkFailed ≡ Done = sym cut ∙ done in absurd (cc clash)
   talk_traced opening status (talk.IsOver turns talked ends) done =
-      by_served opening s.left turns talked.talks talked.taken talked.told (is_over (onward_behind opening.onward turns) status ends done) refl
-  talk_traced opening status (talk.AtEnd turns between rest talked comes rests ended) done = absurd (no_rest opening turns talked.talks rests)
-  talk_traced opening status (talk.NoLine turns between written talked lacks writes) done = absurd (not_last Unserved status _ _ _ (λ same. cc same) writes done)
-  talk_traced opening status (talk.SourceGone turns between later begun talked taken unbroken failed) done = let clash : SourceFailed ≡ Done = sym failed ∙ done in absurd (cc clash)
-  talk_traced opening status (talk.AnswerCut turns turn written talks taken told front failed) done = let clash : SinkFailed ≡ Done = sym failed ∙ done in absurd (cc clash)
-  talk_traced opening status (talk.Unanswered turns between line talked comes failed) done = let clash : OutOfMemory ≡ Done = sym failed ∙ done in absurd (cc clash)
+      absurd (no_over opening turns talked.talks (is_over (onward_behind opening.onward turns) status ends done))
+  talk_traced opening status (talk.AtEnd turns between_is rest talked comes rests ended) done =
+      at_the_end opening turns between_is rest talked.talks talked.taken talked.told comes rests
+  talk_traced opening status (talk.NoLine turns between_is written talked lacks writes) done = absurd (not_last Unserved status _ _ _ (λ same. cc same) writes done)
+  talk_traced opening status (talk.SourceGone turns between_is later begun talked taken_to unbroken failed) done = let clash : SourceFailed ≡ Done = sym failed ∙ done in absurd (cc clash)
+  talk_traced opening status (talk.AnswerCut turns turn written talks taken_to told front failed) done = let clash : SinkFailed ≡ Done = sym failed ∙ done in absurd (cc clash)
+  talk_traced opening status (talk.Unanswered turns between_is line talked comes failed) done = let clash : OutOfMemory ≡ Done = sym failed ∙ done in absurd (cc clash)
 
-pub had_dialogue : (s : Sides) (status : Status) → Served terminal_programme s status → status ≡ Done → HadDialogue s
-had_dialogue s status (talk.NotAsked asked_for unread writes) done = absurd asked_for
-had_dialogue s status (talk.Unread (inl failed) held) done = let clash : SourceFailed ≡ Done = sym failed ∙ done in absurd (cc clash)
-had_dialogue s status (talk.Unread (inr failed) held) done = let clash : OutOfMemory ≡ Done = sym failed ∙ done in absurd (cc clash)
-had_dialogue s status (talk.NoneFirst first writes) done = absurd (not_last Unserved status _ _ _ (λ same. cc same) writes done)
-had_dialogue s status (talk.HasDocument bytes between document ends) done = by_document ends
+pub had_dialogues : (s : Sides) (status : Status) → Served terminal_programme s status → status ≡ Done → HadDialogues s
+had_dialogues s status (talk.NotAsked asked_for unread_is writes) done = absurd asked_for
+had_dialogues s status (talk.Unread (inl failed) held) done = let clash : SourceFailed ≡ Done = sym failed ∙ done in absurd (cc clash)
+had_dialogues s status (talk.Unread (inr failed) held) done = let clash : OutOfMemory ≡ Done = sym failed ∙ done in absurd (cc clash)
+had_dialogues s status (talk.NoneFirst first writes) done = absurd (not_last Unserved status _ _ _ (λ same. cc same) writes done)
+had_dialogues s status (talk.HasDocument bytes between_is document ends) done = by_document ends
   where
-    by_document : EndsDocument terminal_programme bytes (record { first = between; left = s.left; before = s.before; held = s.held }) status → HadDialogue s
-    by_document (talk.IsRefused fault refuses unread (talk.Told line is writes)) = absurd (not_last Refused status _ _ _ (λ same. cc same) writes done)
-    by_document (talk.IsRefused fault refuses unread (talk.Untold failed held)) = let clash : OutOfMemory ≡ Done = sym failed ∙ done in absurd (cc clash)
-    by_document (talk.IsLacking lacks unread writes) = absurd lacks
+    by_document : EndsDocument terminal_programme bytes (record { first = between_is; left = s.left; before = s.before; held = s.held }) status → HadDialogues s
+    by_document (talk.IsRefused fault refuses unread_is (talk.Told line is writes)) = absurd (not_last Refused status _ _ _ (λ same. cc same) writes done)
+    by_document (talk.IsRefused fault refuses unread_is (talk.Untold failed held)) = let clash : OutOfMemory ≡ Done = sym failed ∙ done in absurd (cc clash)
+    by_document (talk.IsLacking lacks unread_is writes) = absurd lacks
     by_document (talk.HasServed opening ends) =
-        let found = talk_traced (record { first = between; left = s.left; before = s.before; held = s.held }) bytes opening status ends done in
-        record { bytes = bytes; between = between; document = document; lane = found.lane; reading = found.reading; traced = found.traced }
+        let found = talk_traced (record { first = between_is; left = s.left; before = s.before; held = s.held }) bytes opening status ends done in
+        record {
+          bytes = bytes;
+          between_is = between_is;
+          document = document;
+          lane = found.lane;
+          reading = found.reading;
+          turns = found.turns;
+          till = found.till;
+          talked = found.talked;
+          paid_are = found.paid_are;
+          told = found.told;
+          left = found.left;
+          rest = found.rest;
+          taken = found.taken_to;
+          ended = found.ended;
+        }

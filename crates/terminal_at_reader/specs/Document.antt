@@ -14,12 +14,16 @@ use Rattle.scenario_lanes.specs.Plan.{LaneData}
 unfoldable pub document_keys : List (List ℕ)
 document_keys = codes "pin_key" ∷ codes "lane" ∷ []
 
--- the document of a trace without its entries, whose messages may have a dialect
+-- a terminal has at most so many purchases, as many as all lanes of a scenario
+abbrev pub most_purchases : ℕ
+most_purchases = 10000
+
+-- the document of a trace without its entries, with one or more purchases, whose messages may have a dialect
 unfoldable pub lane_in_document : Members → Result LaneData ScenarioFault
 lane_in_document ms = do
   pin_key ← bytes_at at_top (codes "pin_key") 16 16 ms
   table ← table_at at_top (codes "lane") ms
-  lane ← live_lane 1 pin_key table
+  lane ← live_lane most_purchases pin_key table
   _ ← only at_top document_keys ms
   Ok lane
 

@@ -1,18 +1,15 @@
 -- The entries of a dialogue as they stand on a lane's lines, where messages have its dialect (this project's own).
-use Rattle.std.specs.Prelude.{ℕ, Bool, List, [], ◌∷◌, ◌++◌, codes, decimal, Option, Some, None, Result, Ok, Err, if◌then◌else◌}
+use Rattle.std.specs.Prelude.{ℕ, Bool, List, [], ◌∷◌, ◌++◌, codes, Option, Some, None, Result, Ok, Err, if◌then◌else◌}
 use Rattle.auth_message.specs.Reply.{ReplyData, reply_of}
 use Rattle.auth_message.specs.Spelling.{reply_bytes}
 use Rattle.auth_message.specs.declared.fault.MessageFault.{MessageFault}
-use Rattle.auth_message.specs.declared.fault.MessageFault.TheVariants as message_fault
-use Rattle.ber_tlv.specs.Written.{tag_bytes}
-use Rattle.ber_tlv.specs.declared.tag.Tag.{Tag}
+use Rattle.fault_words.specs.FaultWords.{iso_fault_words, message_fault_words}
 use Rattle.iso_message.specs.Dialect.{call_in}
 use Rattle.iso_message.specs.Reply.{iso_reply_of}
 use Rattle.iso_message.specs.declared.fault.IsoFault.{IsoFault}
 use Rattle.iso_message.specs.declared.fault.IsoFault.TheVariants as iso_fault
 use Rattle.iso_message.specs.declared.kind.CallKind.{CallKind}
 use Rattle.iso_message.specs.declared.kind.CallKind.TheVariants as kind
-use Rattle.report_text.specs.Pieces.{hex_or_dash}
 use Rattle.trace_check.specs.declared.entry.Entry.{Entry}
 use Rattle.trace_check.specs.declared.entry.Entry.TheVariants.{ToCard, CardSaid, CardGone, ToHost, HostSaid, HostSilent, End}
 use Rattle.terminal_at_reader.specs.declared.fault.ReplyFault.{ReplyFault}
@@ -71,25 +68,10 @@ unread iso (HostSaid reply) = (if iso then iso_fault_in (iso_reply_of reply) els
 unread iso HostSilent = None
 unread iso (End text) = None
 
-abbrev pub tag_text : Tag → List ℕ
-tag_text tag = hex_or_dash (tag_bytes tag.0)
-
--- a fault in words: those that a report has for a cause of its kind, and the fields of ISO 8583 by their numbers
-abbrev pub message_fault_text : MessageFault → List ℕ
-message_fault_text (message_fault.Coding place) = codes "coding " ++ decimal place
-message_fault_text (message_fault.Missing tag) = codes "missing " ++ tag_text tag
-message_fault_text (message_fault.Value tag) = codes "value " ++ tag_text tag
-
-abbrev pub iso_fault_text : IsoFault → List ℕ
-iso_fault_text (iso_fault.Short place) = codes "short " ++ decimal place
-iso_fault_text iso_fault.WrongType = codes "type"
-iso_fault_text iso_fault.Bitmap = codes "bitmap"
-iso_fault_text (iso_fault.Field number) = codes "field " ++ decimal number
-iso_fault_text (iso_fault.Rest place) = codes "rest " ++ decimal place
-
+-- a fault in words
 abbrev pub fault_text : ReplyFault → List ℕ
-fault_text (Message fault) = message_fault_text fault
-fault_text (Iso fault) = iso_fault_text fault
+fault_text (Message fault) = message_fault_words fault
+fault_text (Iso fault) = iso_fault_words fault
 
 -- the line that tells why a reply can't be read, and nothing of one that can
 abbrev pub fault_line : Option ReplyFault → List ℕ

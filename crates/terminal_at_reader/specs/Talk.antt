@@ -1,92 +1,171 @@
--- The talk of a terminal at a reader: the lines that it reads, and what it writes.
-use Rattle.std.specs.Prelude.{◌≡◌, ℕ, if◌then◌else◌, List, [], ◌∷◌, ◌++◌, codes, Option, Some, None, Bool, false}
+-- The talk of a terminal at a reader: the lines that it reads, and what it writes (this project's own).
+use Rattle.std.specs.Prelude.{◌≡◌, ◌≤◌, ◌<◌, ◌+◌, ℕ, if◌then◌else◌, List, [], ◌∷◌, ◌++◌, codes, Option, Some, None, Bool, false, length, option_map, slice_get}
+use Rattle.std.specs.List.{All}
 use Rattle.std.specs.Str.{bytes_eq}
+use Rattle.emv_dict.specs.Settings.{most_amount}
+use Rattle.emv_dict.specs.declared.purchase.Logged.{Logged}
 use Rattle.kernel.specs.Dialogue.{dialogue}
+use Rattle.kernel.specs.EndShown.{EndShown, shown_end}
+use Rattle.kernel.specs.Ended.{end_of}
 use Rattle.kernel.specs.Kernel.{KernelData, KernelStands, outset_in, kernel_next}
-use Rattle.kernel.specs.Reply.{Reply, Deed}
-use Rattle.kernel.specs.Reply as deeds
+use Rattle.kernel.specs.Reply.{Reply}
 use Rattle.kernel.specs.declared.kernel.Next.TheVariants as next
 use Rattle.line_talk.specs.Talk.{other_line}
-use Rattle.line_talk.specs.Turns.{Opening, Turn, onward_behind}
+use Rattle.line_talk.specs.Turns.{GoesOn, Opening, Turn, onward_behind}
 use Rattle.line_talk.specs.declared.party.Onward.{Onward}
-use Rattle.line_talk.specs.declared.party.Onward.TheVariants.{Awaits, Over, Stuck}
+use Rattle.line_talk.specs.declared.party.Onward.TheVariants as way
+use Rattle.scenario_lanes.specs.Plan.{IsLane, LaneData}
+use Rattle.scenario_lanes.specs.declared.plan.Planned.{Planned}
 use Rattle.terminal_state.specs.Terminal.{Outset}
-use Rattle.trace_check.specs.Dialogues.{entry_of_standing, is_awaited, reply_of_entry}
+use Rattle.trace_check.specs.Dialogues.{entry_of_standing, is_awaited, reply_with_log}
 use Rattle.trace_check.specs.Texts.{entry_of_text, entry_text}
 use Rattle.trace_check.specs.declared.entry.Entry.{Entry}
+use Rattle.terminal_at_reader.specs.Document.{most_purchases}
 use Rattle.terminal_at_reader.specs.Hearing.{fault_line, spoken, understood, unread}
+use Rattle.terminal_at_reader.specs.Settlement.{settled_line, settlement_line, settlement_reply, settlement_unread}
+use Rattle.terminal_at_reader.specs.Till.{TillData, new_till, till_ended}
+use Rattle.terminal_at_reader.specs.declared.work.Phase.TheVariants as phase
+use Rattle.terminal_at_reader.specs.declared.work.Work.{Work}
 
 -- an entry as a line
 abbrev pub line_of : Entry → List ℕ
 line_of entry = entry_text entry ++ 10 ∷ []
 
--- what the terminal asks behind these replies, or how it ends, as an entry and in the dialect, and how the talk goes on
+-- what the terminal asks behind these replies, or how the purchase ends, as an entry and in the dialect
 abbrev pub ask_at : Outset → List Reply → Entry
 ask_at outset replies = entry_of_standing outset (dialogue outset replies)
 
 abbrev pub asked_line : Bool → Outset → List Reply → List ℕ
 asked_line iso outset replies = line_of (spoken iso (ask_at outset replies))
 
-abbrev pub onward_of : Deed → Onward
-onward_of (deeds.ToCard command) = Awaits
-onward_of (deeds.ToHost message) = Awaits
-onward_of (deeds.Over ending) = Over
+-- the end record behind these replies, where the dialogue is over
+abbrev pub end_shown_at : Outset → List Reply → Option EndShown
+end_shown_at outset replies = option_map shown_end (end_of outset (dialogue outset replies))
 
-abbrev pub onward_at : Outset → List Reply → Onward
-onward_at outset replies = onward_of (dialogue outset replies).deed
+-- the outset of a lane's purchase
+abbrev pub outset_of_planned : LaneData → Planned → Outset
+outset_of_planned lane planned = record { settings = lane.settings; purchase = planned.purchase }
 
-abbrev pub terminal_opening : Bool → Outset → Opening
-terminal_opening iso outset = record { text = asked_line iso outset []; onward = onward_at outset [] }
-
--- the line that asks for what was asked last, of which the dialogue hears nothing
+-- the line that asks for what was written last and waits; and at rest those that ask for the next purchase, and for the
+-- settlement
 abbrev pub want_line : List ℕ
 want_line = codes "want"
 
+abbrev pub next_line : List ℕ
+next_line = codes "next"
+
+abbrev pub settle_line : List ℕ
+settle_line = codes "settle"
+
+-- what a terminal is at: a purchase, behind these replies; it rests; or a settlement, in which so many messages were
+-- answered and the one behind them waits for its reply
+pub data Doing : Type 0 where
+  Pays : (outset : Outset) → (replies : List Reply) → Doing
+  Rests : Doing
+  Settles : (answered : ℕ) → Doing
+
+-- what is said to a line, how it goes on, what the terminal is at then, and what it has of its purchases
+pub record TerminalTurn : Type 0 where
+  pub answer : List ℕ
+  pub onward : Onward
+  pub doing : Doing
+  pub till : TillData
+
+abbrev pub other_turn : Onward → Doing → TillData → TerminalTurn
+other_turn onward doing till = record { answer = other_line; onward = onward; doing = doing; till = till }
+
+-- the purchase asks, and where it has ended the terminal rests
+abbrev pub turn_by_end : Outset → List Reply → TillData → List ℕ → Option EndShown → TerminalTurn
+turn_by_end outset replies till text None = record { answer = text; onward = way.Awaits; doing = Pays outset replies; till = till }
+turn_by_end outset replies till text (Some end) = record { answer = text; onward = way.Rests; doing = Rests; till = till_ended outset.purchase.amount end till }
+
+-- behind these replies it is asked what the dialogue asks then, and before that this is told
+abbrev pub asked_turn : Bool → Outset → List Reply → TillData → List ℕ → TerminalTurn
+asked_turn iso outset replies till told = turn_by_end outset replies till (told ++ asked_line iso outset replies) (end_shown_at outset replies)
+
 -- the reply that a line is to the dialogue, where it is one, and what is told of it
-abbrev pub reply_if_entry : Bool → Option Entry → Option Reply
-reply_if_entry iso None = None
-reply_if_entry iso (Some entry) = reply_of_entry (understood iso entry)
+abbrev pub reply_if_entry : Bool → List Logged → Option Entry → Option Reply
+reply_if_entry iso log None = None
+reply_if_entry iso log (Some entry) = reply_with_log log (understood iso entry)
 
 abbrev pub told_of : Bool → Option Entry → List ℕ
 told_of iso None = []
 told_of iso (Some entry) = fault_line (unread iso entry)
 
--- what is said to a line, how it goes on, and the replies behind it
-pub record TerminalTurn : Type 0 where
-  pub answer : List ℕ
-  pub onward : Onward
-  pub after : List Reply
-
--- behind these replies it is asked what the dialogue asks then, and before that this is told
-abbrev pub asked_turn : Bool → Outset → List ℕ → List Reply → TerminalTurn
-asked_turn iso outset told replies = record { answer = told ++ asked_line iso outset replies; onward = onward_at outset replies; after = replies }
-
-abbrev pub other_turn : List Reply → TerminalTurn
-other_turn replies = record { answer = other_line; onward = Stuck; after = replies }
-
 -- a reply that the terminal awaits is taken; nothing else is, and nothing more is asked then
-abbrev pub turn_with : Bool → Outset → List Reply → List ℕ → Option Reply → TerminalTurn
-turn_with iso outset replies told None = other_turn replies
-turn_with iso outset replies told (Some reply) =
-    if is_awaited (dialogue outset replies).deed reply then asked_turn iso outset told (replies ++ reply ∷ []) else other_turn replies
+abbrev pub turn_with : Bool → Outset → List Reply → TillData → List ℕ → Option Reply → TerminalTurn
+turn_with iso outset replies till told None = other_turn way.Stuck (Pays outset replies) till
+turn_with iso outset replies till told (Some reply) =
+    if is_awaited (dialogue outset replies).deed reply then asked_turn iso outset (replies ++ reply ∷ []) till told
+    else other_turn way.Stuck (Pays outset replies) till
 
-unfoldable pub terminal_turn : Bool → Outset → List Reply → List ℕ → TerminalTurn
-terminal_turn iso outset replies line =
-    if bytes_eq line want_line then asked_turn iso outset [] replies
-    else turn_with iso outset replies (told_of iso (entry_of_text line)) (reply_if_entry iso (entry_of_text line))
+-- in a purchase; a card is asked with the log as it is
+unfoldable pub paying_turn : Bool → Outset → List Reply → TillData → List ℕ → TerminalTurn
+paying_turn iso outset replies till line =
+    if bytes_eq line want_line then asked_turn iso outset replies till []
+    else turn_with iso outset replies till (told_of iso (entry_of_text line)) (reply_if_entry iso till.log (entry_of_text line))
 
--- lines that were answered one after the other, each while one was awaited
-pub data TerminalTalked (iso : Bool) (outset : Outset) : List Turn → List Reply → Type 0 where
-  begins : TerminalTalked iso outset [] []
-  goes : (turns : List Turn) (replies : List Reply) (line : List ℕ) → TerminalTalked iso outset turns replies
-      → onward_behind (onward_at outset []) turns ≡ Awaits
-      → TerminalTalked iso outset
-      (turns ++ record { line = line; answer = (terminal_turn iso outset replies line).answer; onward = (terminal_turn iso outset replies line).onward } ∷ [])
-      (terminal_turn iso outset replies line).after
+-- a purchase begins, where one is left
+abbrev pub turn_if_planned : LaneData → TillData → Option Planned → TerminalTurn
+turn_if_planned lane till None = other_turn way.Rests Rests till
+turn_if_planned lane till (Some planned) = asked_turn lane.iso (outset_of_planned lane planned) [] (record till { begun = till.begun + 1 }) []
 
--- lines and answers are a talk of a terminal with this settings and this purchase, in this dialect
-abbrev pub IsTerminalTalk : Bool → Outset → List Turn → Type 0
-IsTerminalTalk iso outset turns = (replies : List Reply) × TerminalTalked iso outset turns replies
+abbrev pub next_turn : LaneData → TillData → TerminalTurn
+next_turn lane till = turn_if_planned lane till (slice_get lane.purchases till.begun)
+
+-- the message behind so many is sent, or all were, and none is left
+abbrev pub turn_if_captured : Bool → TillData → ℕ → List ℕ → Option (List ℕ) → TerminalTurn
+turn_if_captured iso till answered told None =
+    record { answer = told ++ settled_line answered; onward = way.Rests; doing = Rests; till = record till { captures = [] } }
+turn_if_captured iso till answered told (Some message) =
+    record { answer = told ++ settlement_line iso message; onward = way.Awaits; doing = Settles answered; till = till }
+
+abbrev pub settlement_turn : Bool → TillData → ℕ → List ℕ → TerminalTurn
+settlement_turn iso till answered told = turn_if_captured iso till answered told (slice_get till.captures answered)
+
+-- at rest
+unfoldable pub resting_turn : LaneData → TillData → List ℕ → TerminalTurn
+resting_turn lane till line =
+    if bytes_eq line next_line then next_turn lane till
+    else if bytes_eq line settle_line then settlement_turn lane.iso till 0 []
+    else other_turn way.Rests Rests till
+
+-- in a settlement, in which a reply is awaited
+abbrev pub turn_if_reply : Bool → TillData → ℕ → Option (List ℕ) → TerminalTurn
+turn_if_reply iso till answered None = other_turn way.Stuck (Settles answered) till
+turn_if_reply iso till answered (Some reply) =
+    settlement_turn iso till (answered + 1) (fault_line (settlement_unread iso (slice_get till.captures answered) reply))
+
+unfoldable pub settling_turn : Bool → TillData → ℕ → List ℕ → TerminalTurn
+settling_turn iso till answered line =
+    if bytes_eq line want_line then settlement_turn iso till answered []
+    else turn_if_reply iso till answered (settlement_reply line)
+
+abbrev pub terminal_turn : LaneData → Doing → TillData → List ℕ → TerminalTurn
+terminal_turn lane (Pays outset replies) till line = paying_turn lane.iso outset replies till line
+terminal_turn lane Rests till line = resting_turn lane till line
+terminal_turn lane (Settles answered) till line = settling_turn lane.iso till answered line
+
+-- before the first line the first purchase begins
+abbrev pub first_turn : LaneData → TerminalTurn
+first_turn lane = next_turn lane new_till
+
+abbrev pub terminal_opening : LaneData → Opening
+terminal_opening lane = record { text = (first_turn lane).answer; onward = (first_turn lane).onward }
+
+abbrev pub turn_at : List ℕ → TerminalTurn → Turn
+turn_at line turn = record { line = line; answer = turn.answer; onward = turn.onward }
+
+-- lines that were answered one after the other, each where one may follow
+pub data TerminalTalked (lane : LaneData) : List Turn → Doing → TillData → Type 0 where
+  begins : TerminalTalked lane [] (first_turn lane).doing (first_turn lane).till
+  goes : (turns : List Turn) (doing : Doing) (till : TillData) (line : List ℕ) → TerminalTalked lane turns doing till
+      → GoesOn (onward_behind (terminal_opening lane).onward turns)
+      → TerminalTalked lane (turns ++ turn_at line (terminal_turn lane doing till line) ∷ []) (terminal_turn lane doing till line).doing (terminal_turn lane doing till line).till
+
+-- lines and answers are a talk of a terminal with this lane
+abbrev pub IsTerminalTalk : LaneData → List Turn → Type 0
+IsTerminalTalk lane turns = (doing : Doing) × (till : TillData) × TerminalTalked lane turns doing till
 
 -- a terminal that waits for a reply behind these
 pub record IsLive (outset : Outset) (kernel : KernelData) (replies : List Reply) : Type 0 where
@@ -94,15 +173,58 @@ pub record IsLive (outset : Outset) (kernel : KernelData) (replies : List Reply)
   pub stands : KernelStands kernel replies
   pub fresh : kernel.is_spent ≡ false
 
--- a terminal that has answered these lines so. At first it asks the card.
-pub record HasAskedSo (iso : Bool) (outset : Outset) (kernel : KernelData) (turns : List Turn) : Type 0 where
-  pub replies : List Reply
-  pub talked : TerminalTalked iso outset turns replies
-  pub live : onward_behind (onward_at outset []) turns ≡ Awaits → IsLive outset kernel replies
-  pub first : turns ≡ [] → IsLive outset kernel [] × (kernel_next kernel ≡ next.ToCard)
+-- it is at a purchase, behind these replies
+pub record IsPaying (work : Work) (outset : Outset) (replies : List Reply) : Type 0 where
+  pub phase_is : work.phase ≡ phase.Pays
+  pub live : IsLive outset work.kernel replies
+  pub amount_is : work.amount ≡ outset.purchase.amount
+  pub amount_fits : work.amount ≤ most_amount
 
--- the entries of a trace that lines and answers are, up to what was asked last: behind a reply stands what is told of it,
--- and what is asked next; a line that asks for it once more is no entry
+-- it is at a settlement, in which so many messages were answered and another one waits
+pub record IsSettling (work : Work) (till : TillData) (answered : ℕ) : Type 0 where
+  pub phase_is : work.phase ≡ phase.Settles answered
+  pub waits : answered < length till.captures
+
+abbrev pub IsDoing : Work → TillData → Doing → Type 0
+IsDoing work till (Pays outset replies) = IsPaying work outset replies
+IsDoing work till Rests = work.phase ≡ phase.Rests
+IsDoing work till (Settles answered) = IsSettling work till answered
+
+-- the amounts of a log are within their limit
+abbrev pub HasAmounts : List Logged → Type 0
+HasAmounts log = All (λ logged. logged.amount ≤ most_amount) log
+
+-- what it is at, and what it has of its purchases
+pub record WorksAt (work : Work) (doing : Doing) (till : TillData) : Type 0 where
+  pub till_is : work.till ≡ till
+  pub does : IsDoing work till doing
+  pub amounts : HasAmounts till.log
+
+-- this was answered so, and where another line may follow the terminal is where the turn leaves it
+pub record IsTurnOf (work : Work) (text : List ℕ) (onward : Onward) (turn : TerminalTurn) : Type 0 where
+  pub answer_is : text ≡ turn.answer
+  pub onward_is : onward ≡ turn.onward
+  pub works : GoesOn turn.onward → WorksAt work turn.doing turn.till
+
+-- the first purchase of a lane has begun, and asks the card
+pub record HasOpened (lane : LaneData) (work : Work) : Type 0 where
+  pub planned : Planned
+  pub first : slice_get lane.purchases 0 ≡ Some planned
+  pub live : IsLive (outset_of_planned lane planned) work.kernel []
+  pub waits : kernel_next work.kernel ≡ next.ToCard
+
+-- a terminal that has answered these lines so
+pub record HasAskedSo (lane : LaneData) (work : Work) (turns : List Turn) : Type 0 where
+  pub doing : Doing
+  pub till : TillData
+  pub rules : IsLane lane
+  pub few : length lane.purchases ≤ most_purchases
+  pub talked : TerminalTalked lane turns doing till
+  pub works : GoesOn (onward_behind (terminal_opening lane).onward turns) → WorksAt work doing till
+  pub first : turns ≡ [] → HasOpened lane work
+
+-- the entries of a trace that lines and answers of a purchase are, up to what was asked last: behind a reply stands what is
+-- told of it, and what is asked next; a line that asks for it once more is no entry
 pub data AreEntries (iso : Bool) (first : List ℕ) : List Turn → List Entry → Type 0 where
   asks : (ask : Entry) → first ≡ line_of (spoken iso ask) → AreEntries iso first [] (ask ∷ [])
   asks_again : (turns : List Turn) (entries : List Entry) (ask : Entry) (turn : Turn) → AreEntries iso first turns (entries ++ ask ∷ [])

@@ -66,7 +66,7 @@ fn heard_iso(alloc: Global, reply: &[u8]) -> Result<Heard, AllocError>
 }
 
 /// Why a reply in the first dialect can't be read, where it can't.
-fn fault_in(reply: &[u8]) -> Option<ReplyFault>
+pub fn fault_in(reply: &[u8]) -> Option<ReplyFault>
     ensures { result ≡ spec.message_fault_in (reply_of reply.now) }
 {
     match read_reply(reply) {

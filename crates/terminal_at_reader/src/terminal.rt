@@ -1,119 +1,169 @@
 //! The terminal as it answers line by line.
-ghost use Rattle.std.specs.Prelude.{◌≡◌, ◌≢◌, ◌++◌, ◌∷◌, [], Bool, List, IfOk, OnOk, false};
-ghost use Rattle.kernel.specs.Kernel.{KernelStands, outset_in, kernel_next};
-ghost use Rattle.kernel.specs.Reply.{Reply};
-ghost use Rattle.kernel.specs.declared.kernel.Next.TheVariants as next;
-ghost use Rattle.line_talk.specs.Talk.{other_line};
-ghost use Rattle.line_talk.specs.Turns.{GoesOn, Turn, onward_behind};
-ghost use Rattle.line_talk.specs.declared.party.Onward.TheVariants as onward;
-ghost use Rattle.terminal_state.specs.Terminal.{Outset};
-ghost use Rattle.terminal_at_reader.specs.Hearing.{fault_line};
-ghost use Rattle.terminal_at_reader.specs.Talk.{HasAskedSo, IsTerminalTalk, asked_line, onward_at, terminal_opening};
+ghost use Rattle.std.specs.Prelude.{◌≡◌, ◌≤◌, ◌<◌, ◌+◌, [], length, IfOk, option_map, slice_get};
+ghost use Rattle.emv_dict.specs.Settings.{IsPurchase, IsSettings};
+ghost use Rattle.scenario_lanes.specs.Plan.{IsLane};
+ghost use Rattle.terminal_at_reader.specs.Document.{most_purchases};
+ghost use Rattle.terminal_at_reader.specs.Talk.{Doing, HasAmounts, HasAskedSo, IsTerminalTalk, IsTurnOf, Rests, WorksAt, asked_turn, next_turn, outset_of_planned, resting_turn, terminal_opening, terminal_turn};
+ghost use Rattle.terminal_at_reader.specs.Till.{TillData};
 
-use crate::asking::{tell_ask, tell_end};
-use crate::fault::{ReplyFault, tell_fault};
-use crate::hearing::hear;
-use emv_dict::{Purchase, Settings};
+use crate::asking::tell_ask;
+use crate::paying::{add_asked, answer_paying};
+use crate::saying::put_other;
+use crate::settling::{add_settlement, answer_settling};
+use crate::till::Till;
+use crate::work::{Phase, Work};
 use kernel::{Kernel, Next};
-use line_talk::{LineText, Onward, Party, put_line};
+use line_talk::{LineText, Onward, Party};
+use scenario_lanes::{Lane, Planned};
 use std::alloc::{AllocError, Global};
-use trace_check::entry::entry_of;
-use trace_check::take;
 
-/// A terminal with one purchase.
+/// A terminal with its purchases.
 #[derive(Drop)]
 pub struct Terminal<'s> {
-    pub settings: &'s Settings,
-    pub purchase: &'s Purchase,
-    /// Whether its messages to the issuer's host go in the style of ISO 8583.
-    pub iso: bool,
-    pub kernel: Kernel<'s>,
+    pub lane: &'s Lane,
+    pub work: Work<'s>,
 }
 
-/// Tells what the terminal asks next, or how it ends.
-fn tell(iso: bool, kernel: &mut Kernel<'_>, line: &mut LineText) -> Onward
-    requires fresh { kernel.old.is_spent ≡ false }
-    ensures told { (replies : List Reply) → KernelStands kernel.old replies → line.new.items ≡ asked_line iso (outset_in kernel.old) replies }
-    ensures onward { (replies : List Reply) → KernelStands kernel.old replies → result ≡ onward_at (outset_in kernel.old) replies }
-    ensures live { result ≡ onward.Awaits → kernel.new ≡ kernel.old }
-    ensures waits { kernel_next kernel.old ≢ next.Ended → result ≡ onward.Awaits }
+/// Whether a lane's messages to the issuer's host go in the style of ISO 8583.
+fn is_iso(lane: &Lane) -> bool
+    ensures { result ≡ lane.now.iso }
 {
-    if kernel.next() == Next::Ended {
-        tell_end(kernel, line);
-        return Onward::Over;
+    lane.iso
+}
+
+/// The amount of a purchase.
+fn amount_of(planned: &Planned) -> u64
+    ensures { result ≡ planned.now.purchase.amount }
+{
+    planned.purchase.amount
+}
+
+/// The purchase behind so many of a lane.
+fn planned_at(lane: &Lane, number: usize) -> Option<&Planned>
+    ensures { option_map (λ planned. planned.now) result ≡ slice_get lane.now.purchases number }
+{
+    lane.purchases.get(number)
+}
+
+/// A terminal whose first purchase begins.
+pub fn begin<'s>(alloc: Global, lane: &'s Lane) -> Terminal<'s>
+    requires some { 1 ≤ length lane.now.purchases }
+    requires few { length lane.now.purchases ≤ most_purchases }
+    requires rules { IsLane lane.now }
+    ensures begun { HasAskedSo result.lane.now result.work [] }
+    ensures lane { result.lane.now ≡ lane.now }
+{
+    let planned = &lane.purchases[0];
+    let mut till = Till::new(alloc);
+    till.begin();
+    let kernel = Kernel::begin(&lane.settings, &planned.purchase);
+    // It asks the card first.
+    let waits = kernel.next();
+    prove!(matches!(waits, Next::ToCard));
+    let work = Work {
+        kernel,
+        amount: amount_of(planned),
+        phase: Phase::Pays,
+        till,
+    };
+    Terminal { lane, work }
+}
+
+/// Begins a purchase in place of the one before it, and puts what it asks first into a text that is empty.
+fn begin_planned<'s>(
+    lane: &'s Lane,
+    planned: &'s Planned,
+    work: &mut Work<'s>,
+    text: &mut Vec<u8>,
+) -> Result<Onward, AllocError>
+    requires settings { IsSettings lane.now.settings }
+    requires purchase { IsPurchase planned.now.purchase }
+    requires few { work.old.till.begun < most_purchases }
+    requires log { HasAmounts work.old.till.log }
+    ensures turn { IfOk result (λ onward. IsTurnOf work.new text.new.items onward
+        (asked_turn lane.now.iso (outset_of_planned lane.now planned.now) [] (record work.old.till { begun = work.old.till.begun + 1 }) text.old.items)) }
+{
+    work.kernel.begin_again(&lane.settings, &planned.purchase);
+    work.amount = amount_of(planned);
+    work.phase = Phase::Pays;
+    work.till.begin();
+    add_asked(is_iso(lane), work, text)
+}
+
+/// Begins the next purchase, where one is left.
+fn begin_next<'s>(
+    lane: &'s Lane,
+    work: &mut Work<'s>,
+    text: &mut Vec<u8>,
+) -> Result<Onward, AllocError>
+    requires rules { IsLane lane.now }
+    requires few { length lane.now.purchases ≤ most_purchases }
+    requires works { WorksAt work.old Rests work.old.till }
+    requires empty { text.old.items ≡ [] }
+    ensures turn { IfOk result (λ onward. IsTurnOf work.new text.new.items onward (next_turn lane.now work.old.till)) }
+{
+    match planned_at(lane, work.till.begun()) {
+        Some(planned) => begin_planned(lane, planned, work, text),
+        None => put_other(Onward::Rests, text),
     }
-    tell_ask(iso, kernel, line);
-    Onward::Awaits
 }
 
-/// Adds what the terminal asks next, or how it ends.
-fn add_asked(iso: bool, kernel: &mut Kernel<'_>, text: &mut Vec<u8>) -> Result<Onward, AllocError>
-    requires fresh { kernel.old.is_spent ≡ false }
-    ensures told { OnOk result ((replies : List Reply) → KernelStands kernel.old replies
-        → text.new.items ≡ text.old.items ++ asked_line iso (outset_in kernel.old) replies) }
-    ensures onward { IfOk result (λ found. (replies : List Reply) → KernelStands kernel.old replies → found ≡ onward_at (outset_in kernel.old) replies) }
-    ensures live { IfOk result (λ found. found ≡ onward.Awaits → kernel.new ≡ kernel.old) }
-{
-    let mut line = LineText::new();
-    let onward = tell(iso, kernel, &mut line);
-    text.extend_from_slice(line.as_slice())?;
-    Ok(onward)
-}
-
-/// Puts the line that tells why a reply can't be read in place of what was there, and nothing of one that can.
-fn put_fault(fault: Option<ReplyFault>, text: &mut Vec<u8>) -> Result<(), AllocError>
-    ensures { OnOk result (text.new.items ≡ fault_line fault) }
-{
-    let mut line = LineText::new();
-    tell_fault(fault, &mut line);
-    put_line(text, line.as_slice())
-}
-
-/// Puts the line that answers what is no reply that is awaited in place of what was there.
-fn put_other(text: &mut Vec<u8>) -> Result<Onward, AllocError>
-    ensures told { OnOk result (text.new.items ≡ other_line) }
-    ensures stuck { IfOk result (λ found. found ≡ onward.Stuck) }
-{
-    put_line(text, b"?\n")?;
-    Ok(Onward::Stuck)
-}
-
-/// Answers a line: a reply that the terminal awaits by what it asks next, and `want` by what it asked last.
-fn answer_line(
-    alloc: Global,
-    iso: bool,
-    kernel: &mut Kernel<'_>,
+/// Answers a line at rest: `next` by what the next purchase asks first, and `settle` by the first message that waits for
+/// settlement.
+fn answer_resting<'s>(
+    lane: &'s Lane,
+    work: &mut Work<'s>,
     line: &[u8],
     text: &mut Vec<u8>,
 ) -> Result<Onward, AllocError>
-    requires stands { (outset : Outset) × (turns : List Turn) × HasAskedSo iso outset kernel.old turns × GoesOn (onward_behind (onward_at outset []) turns) }
-    ensures turn { IfOk result (λ onward. (outset : Outset) (turns : List Turn) → HasAskedSo iso outset kernel.old turns → GoesOn (onward_behind (onward_at outset []) turns)
-        → HasAskedSo iso outset kernel.new (turns ++ record { line = line.now; answer = text.new.items; onward = onward } ∷ [])) }
+    requires rules { IsLane lane.now }
+    requires few { length lane.now.purchases ≤ most_purchases }
+    requires works { WorksAt work.old Rests work.old.till }
+    ensures turn { IfOk result (λ onward. IsTurnOf work.new text.new.items onward (resting_turn lane.now work.old.till line.now)) }
 {
-    if line == b"want".as_slice() {
-        text.clear();
-        return add_asked(iso, kernel, text);
+    text.clear();
+    if line == b"next".as_slice() {
+        return begin_next(lane, work, text);
     }
-    let Some(said) = entry_of(alloc, line)? else {
-        return put_other(text);
-    };
-    let heard = hear(alloc, iso, said)?;
-    if !take(kernel, &heard.entry) {
-        return put_other(text);
+    if line == b"settle".as_slice() {
+        return add_settlement(is_iso(lane), work, 0, text);
     }
-    put_fault(heard.fault, text)?;
-    add_asked(iso, kernel, text)
+    put_other(Onward::Rests, text)
+}
+
+/// Answers a line, by what the terminal is at.
+fn answer_line<'s>(
+    alloc: Global,
+    lane: &'s Lane,
+    work: &mut Work<'s>,
+    line: &[u8],
+    text: &mut Vec<u8>,
+) -> Result<Onward, AllocError>
+    requires rules { IsLane lane.now }
+    requires few { length lane.now.purchases ≤ most_purchases }
+    requires works { (doing : Doing) × (till : TillData) × WorksAt work.old doing till }
+    ensures turn { IfOk result (λ onward. (doing : Doing) (till : TillData) → WorksAt work.old doing till
+        → IsTurnOf work.new text.new.items onward (terminal_turn lane.now doing till line.now)) }
+{
+    match work.phase {
+        Phase::Pays => answer_paying(alloc, is_iso(lane), work, line, text),
+        Phase::Rests => answer_resting(lane, work, line, text),
+        Phase::Settles(answered) => {
+            answer_settling(alloc, is_iso(lane), work, answered, line, text)
+        }
+    }
 }
 
 impl Party for Terminal<'_> {
-    ghost opening = { λ terminal. terminal_opening terminal.iso (record { settings = terminal.settings.now; purchase = terminal.purchase.now }) };
+    ghost opening = { λ terminal. terminal_opening terminal.lane.now };
 
-    ghost stands = { λ terminal turns. HasAskedSo terminal.iso (record { settings = terminal.settings.now; purchase = terminal.purchase.now }) terminal.kernel turns };
+    ghost stands = { λ terminal turns. HasAskedSo terminal.lane.now terminal.work turns };
 
-    ghost talks = { λ terminal turns. IsTerminalTalk terminal.iso (record { settings = terminal.settings.now; purchase = terminal.purchase.now }) turns };
+    ghost talks = { λ terminal turns. IsTerminalTalk terminal.lane.now turns };
 
     fn open(&mut self, text: &mut LineText) -> Onward {
-        tell(self.iso, &mut self.kernel, text)
+        tell_ask(is_iso(self.lane), &self.work.kernel, text);
+        Onward::Awaits
     }
 
     fn answer(
@@ -122,8 +172,8 @@ impl Party for Terminal<'_> {
         line: &[u8],
         text: &mut Vec<u8>,
     ) -> Result<Onward, AllocError> {
-        answer_line(alloc, self.iso, &mut self.kernel, line, text)
+        answer_line(alloc, self.lane, &mut self.work, line, text)
     }
 
-    ghost told = { λ terminal turns stands. (stands.replies, stands.talked) };
+    ghost told = { λ terminal turns stands. (stands.doing, stands.till, stands.talked) };
 }

@@ -1,3 +1,5 @@
+mod settlement;
+
 use crate::top::run;
 use emv_ports::{MemorySink, MemorySource};
 use std::alloc::{AllocError, Global};
@@ -304,7 +306,8 @@ const OTHER: &str = "> 00a4040007a000000003101000\n?\n";
 
 #[test]
 fn a_card_that_is_gone_ends_it(rt: HostRuntime) -> Result<(), Fail> {
-    hold(&rt, rt.alloc(), "< gone\n< 9000\n", 0, GONE)
+    let told = joined(rt.alloc(), &[GONE, "?\n"])?;
+    hold(&rt, rt.alloc(), "< gone\n< 9000\n", 0, told.as_str())
 }
 
 #[test]

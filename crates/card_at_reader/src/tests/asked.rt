@@ -164,3 +164,112 @@ fn a_card_tells_which_plan_fired(rt: HostRuntime) -> Result<(), Fail> {
     }
     Ok(())
 }
+
+/// A wrong PIN, the right one, and an approval: what was decided and why, also off, and behind the next power-up.
+const DECIDED: &str = "\
+decided
+why
+power
+00a4040007a000000003101000
+80a8000002830000
+0020008008241111ffffffffff
+0020008008241234ffffffffff
+why
+80ae40001d000000002500000000000000084080004000000840240615000102030400
+80ae40001d000000002500000000000000084080004000000840240615000102030400
+decided
+why
+off
+decided
+why
+power
+decided
+why
+";
+
+const DECIDED_ANSWERS: &str = "\
+decided 0
+?
+power 10,9,0,0,3,0
+< 6f168407a0000000031010a50b50064352454449548701019000
+< 80061c00080103009000
+< 63c2
+< 9000
+?
+< 801140000b1fe5da94e94c28660140000103019000
+< 6985
+decided 5
+app 0 started 11
+app 0 pin-try 2
+app 0 pin-try 1
+app 0 pin-right 3
+app 0 first tc one 2500
+why ac first app 0 asked tc made tc blocked false auth_failed false currency 0840 own one count 0 count_limit 5 sum 0 amount 2500 sum_limit 20000
+off
+decided 5
+app 0 started 11
+app 0 pin-try 2
+app 0 pin-try 1
+app 0 pin-right 3
+app 0 first tc one 2500
+why ac first app 0 asked tc made tc blocked false auth_failed false currency 0840 own one count 0 count_limit 5 sum 0 amount 2500 sum_limit 20000
+power 11,9,1,2500,3,0
+decided 0
+?
+";
+
+/// A PIN try is cut before its first write, within one, and at its release.
+const CUT: &str = "\
+pull 2 before 1
+power
+00a4040007a000000003101000
+80a8000002830000
+0020008008241234ffffffffff
+decided
+pull 2 within 2
+power
+00a4040007a000000003101000
+80a8000002830000
+0020008008241234ffffffffff
+decided
+pull 2 release
+power
+00a4040007a000000003101000
+80a8000002830000
+0020008008241234ffffffffff
+decided
+";
+
+const CUT_ANSWERS: &str = "\
+pull 2 before 1
+power 10,9,0,0,3,0
+< 6f168407a0000000031010a50b50064352454449548701019000
+< 80061c00080103009000
+< torn
+decided 1
+app 0 started 11
+pull 2 within 2
+power 11,9,0,0,3,0
+< 6f168407a0000000031010a50b50064352454449548701019000
+< 80061c00080103009000
+< torn
+decided 2
+app 0 started 12
+app 0 pin-try 2 unsure
+pull 2 release
+power 12,9,0,0,3,0
+< 6f168407a0000000031010a50b50064352454449548701019000
+< 80061c00080103009000
+< torn
+decided 2
+app 0 started 13
+app 0 pin-try 2
+";
+
+#[test]
+fn a_card_tells_what_it_decided_and_why(rt: HostRuntime) -> Result<(), Fail> {
+    for (lines, answers) in [(DECIDED, DECIDED_ANSWERS), (CUT, CUT_ANSWERS)] {
+        hold(&rt, rt.alloc(), lines, answers)?;
+    }
+    Ok(())
+}

@@ -1,80 +1,60 @@
-use Rattle.std.proofs.Common.{◌≡◌, ◌++◌, ◌∙◌, ℕ, Bool, List, true, false, ap, rules, subst, sym}
-use Rattle.std.specs.Str.{bytes_eq}
-use Rattle.kernel.specs.Dialogue.{dialogue}
-use Rattle.kernel.specs.Kernel.{outset_in}
-use Rattle.trace_check.proofs.Spelling.{text_is}
-use Rattle.trace_check.specs.Dialogues.{is_awaited, reply_of_entry}
-use Rattle.trace_check.specs.Loop.{ReplyIsTaken}
-use Rattle.terminal_at_reader.proofs.Taking.{accepted, asked_again, if_asked, if_other, live_now, none_read, refused}
-use Rattle.terminal_at_reader.specs.Hearing.{fault_line}
-use Rattle.terminal_at_reader.specs.Talk.{asked_line, want_line}
+use Rattle.terminal_at_reader.proofs.Turning.{at_rest, has_amounts, if_so, in_purchase, in_settlement, pays_fresh, rests_at, settles_below}
+use Rattle.std.proofs.Common.{Bool, subst}
+use Rattle.terminal_at_reader.specs.Talk.{IsTurnOf, paying_turn, settling_turn}
 use Rattle.terminal_at_reader.proofs.terminal.answer_line.Goals as goal
 
-pub add_asked-requires : goal.add_asked-requires
-add_asked-requires c = record {
-  fresh = (live_now c.args.iso c.requires.stands.0 c.args.kernel.now c.requires.stands.1 c.args.line.now c.requires.stands.2 c.requires.stands.3).fresh;
+pub answer_paying-requires : goal.answer_paying-requires
+answer_paying-requires c =
+    let works = c.requires.works in
+    record {
+      fresh = pays_fresh c.args.work.now works.0 works.1 works.2 c.in-Pays.is;
+      log = has_amounts c.args.work.now works.0 works.1 works.2;
+    }
+
+pub returns-in-Pays : goal.returns-in-Pays
+returns-in-Pays c = record {
+  turn =
+      if_so _ _ c.answer_paying.result
+      (λ onward turn.
+      in_purchase c.args.lane.now c.args.work.now c.args.line.now c.answer_paying.new.work c.answer_paying.new.text.items onward c.in-Pays.is
+      (λ outset replies paying.
+      subst (λ (i : Bool). IsTurnOf c.answer_paying.new.work c.answer_paying.new.text.items onward (paying_turn i outset replies c.args.work.now.till c.args.line.now)) c.is_iso.ensures
+      (turn outset replies paying)))
+      c.answer_paying.ensures.turn;
 }
 
-pub returns-then-eq : goal.returns-then-eq
-returns-then-eq c =
-    let wanted : bytes_eq c.args.line.now want_line ≡ true =
-    sym (c.eq.ensures ∙ ap (λ (bytes : List ℕ). bytes_eq c.args.line.now bytes) c.as_slice.ensures) ∙ c.if-eq.true in
+pub answer_resting-requires : goal.answer_resting-requires
+answer_resting-requires c =
+    let works = c.requires.works in
     record {
-      turn = if_asked _ _ _ _ c.add_asked.result c.add_asked.ensures.told c.add_asked.ensures.onward c.add_asked.ensures.live
-          (λ onward told goes_so live outset turns has may.
-          asked_again c.args.iso outset c.args.kernel.now turns c.args.line.now has may wanted c.add_asked.new.kernel c.add_asked.new.text.items onward
-          (λ replies stands. told replies stands ∙ ap (λ (t : List ℕ). t ++ asked_line c.args.iso (outset_in c.args.kernel.now) replies) c.clear.ensures.items)
-          goes_so live);
+      rules = c.requires.rules;
+      few = c.requires.few;
+      works = rests_at c.args.work.now works.0 works.1 works.2 c.in-Rests.is;
     }
 
-pub returns-in_default : goal.returns-in_default
-returns-in_default c =
-    let unwanted : bytes_eq c.args.line.now want_line ≡ false =
-    sym (c.eq.ensures ∙ ap (λ (bytes : List ℕ). bytes_eq c.args.line.now bytes) c.as_slice.ensures) ∙ c.if-eq.false in
+pub returns-in-Rests : goal.returns-in-Rests
+returns-in-Rests c = record {
+  turn =
+      if_so _ _ c.answer_resting.result
+      (λ onward turn. at_rest c.args.lane.now c.args.work.now c.args.line.now c.answer_resting.new.work c.answer_resting.new.text.items onward c.in-Rests.is turn)
+      c.answer_resting.ensures.turn;
+}
+
+pub answer_settling-requires : goal.answer_settling-requires
+answer_settling-requires c =
+    let works = c.requires.works in
     record {
-      turn = if_other _ _ _ c.put_other.result c.put_other.ensures.told c.put_other.ensures.stuck
-          (λ onward told stuck outset turns has may.
-          none_read c.args.iso outset c.args.kernel.now turns c.args.line.now has may unwanted c.args.kernel.now c.put_other.new.text.items onward
-          (sym c.in_default.is ∙ c.in_ok-said.ensures) told stuck);
+      waits = settles_below c.args.work.now works.0 works.1 c.in-Settles.answered works.2 c.in-Settles.is;
+      log = has_amounts c.args.work.now works.0 works.1 works.2;
     }
 
-pub hear-requires : goal.hear-requires
-hear-requires c = (text_is c.args.line.now c.in-Some.said (sym (sym c.in-Some.is ∙ c.in_ok-said.ensures))).1
-
-pub take-requires : goal.take-requires
-take-requires c =
-    (live_now c.args.iso c.requires.stands.0 c.args.kernel.now c.requires.stands.1 c.args.line.now c.requires.stands.2 c.requires.stands.3).fresh
-
-pub returns-then-not-take : goal.returns-then-not-take
-returns-then-not-take c =
-    let unwanted : bytes_eq c.args.line.now want_line ≡ false =
-    sym (c.eq.ensures ∙ ap (λ (bytes : List ℕ). bytes_eq c.args.line.now bytes) c.as_slice.ensures) ∙ c.if-eq.false in
-    let not_taken : c.take.result ≡ false = search rules in
-    record {
-      turn = if_other _ _ _ c.put_other-then-not-take.result c.put_other-then-not-take.ensures.told c.put_other-then-not-take.ensures.stuck
-          (λ onward told stuck outset turns has may.
-          refused c.args.iso outset c.args.kernel.now turns c.args.line.now has may unwanted c.in-Some.said (sym c.in-Some.is ∙ c.in_ok-said.ensures)
-          c.take.new.kernel c.in_ok-heard.heard.entry c.in_ok-heard.ensures.entry c.take.ensures.outset c.take.ensures.fresh c.put_other-then-not-take.new.text.items onward
-          (λ replies stands.
-          subst (λ (found : Bool). ReplyIsTaken (is_awaited (dialogue (outset_in c.args.kernel.now) replies).deed) c.take.new.kernel replies (reply_of_entry c.in_ok-heard.heard.entry) found)
-          not_taken (c.take.ensures.taken replies stands)) told stuck);
-    }
-
-pub returns : goal.returns
-returns c =
-    let unwanted : bytes_eq c.args.line.now want_line ≡ false =
-    sym (c.eq.ensures ∙ ap (λ (bytes : List ℕ). bytes_eq c.args.line.now bytes) c.as_slice.ensures) ∙ c.if-eq.false in
-    let was_taken : c.take.result ≡ true = search rules in
-    record {
-      turn = if_asked _ _ _ _ c.add_asked-2.result c.add_asked-2.ensures.told c.add_asked-2.ensures.onward c.add_asked-2.ensures.live
-          (λ onward told goes_so live outset turns has may.
-          accepted c.args.iso outset c.args.kernel.now turns c.args.line.now has may unwanted c.in-Some.said (sym c.in-Some.is ∙ c.in_ok-said.ensures)
-          c.take.new.kernel c.in_ok-heard.heard.entry c.in_ok-heard.ensures.entry c.take.ensures.outset c.take.ensures.fresh
-          c.add_asked-2.new.kernel c.add_asked-2.new.text.items onward
-          (λ replies stands.
-          subst (λ (found : Bool). ReplyIsTaken (is_awaited (dialogue (outset_in c.args.kernel.now) replies).deed) c.take.new.kernel replies (reply_of_entry c.in_ok-heard.heard.entry) found)
-          was_taken (c.take.ensures.taken replies stands))
-          (λ replies stands.
-          told replies stands ∙ ap (λ (t : List ℕ). t ++ asked_line c.args.iso (outset_in c.take.new.kernel) replies)
-          (c.in_ok-put_fault.ensures ∙ ap fault_line c.in_ok-heard.ensures.fault)) goes_so live);
-    }
+pub returns-in-Settles : goal.returns-in-Settles
+returns-in-Settles c = record {
+  turn =
+      if_so _ _ c.answer_settling.result
+      (λ onward turn.
+      in_settlement c.args.lane.now c.args.work.now c.args.line.now c.answer_settling.new.work c.answer_settling.new.text.items onward c.in-Settles.answered c.in-Settles.is
+      (subst (λ (i : Bool). IsTurnOf c.answer_settling.new.work c.answer_settling.new.text.items onward (settling_turn i c.args.work.now.till c.in-Settles.answered c.args.line.now))
+      c.is_iso-in-Settles.ensures turn))
+      c.answer_settling.ensures.turn;
+}

@@ -1,7 +1,7 @@
 use Rattle.std.proofs.Common.{List, ℕ, subst}
 use Rattle.line_talk.specs.Talk.{EndsDocument, HasDocument}
 use Rattle.terminal_at_reader.specs.Top.{terminal_programme}
-use Rattle.terminal_at_reader.proofs.Tracing.{had_dialogue}
+use Rattle.terminal_at_reader.proofs.Tracing.{had_dialogues}
 use Rattle.terminal_at_reader.proofs.top.run.Goals as goal
 
 pub returns-in-Ok-Document-clause-served : goal.returns-in-Ok-Document-clause-served
@@ -17,4 +17,4 @@ returns-in-Ok-Document-clause-served g c =
     }) c.serve_document.result) c.as_slice.ensures.value c.serve_document.ensures.ends)
 
 pub returns-in-Ok-Document-clause-traced : goal.returns-in-Ok-Document-clause-traced
-returns-in-Ok-Document-clause-traced g c = had_dialogue _ c.serve_document.result (returns-in-Ok-Document-clause-served g c)
+returns-in-Ok-Document-clause-traced g c = had_dialogues _ c.serve_document.result (returns-in-Ok-Document-clause-served g c)

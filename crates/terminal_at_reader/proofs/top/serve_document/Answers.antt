@@ -7,10 +7,10 @@ use Rattle.terminal_at_reader.proofs.top.serve_document.Goals as goal
 
 pub returns-in-Ok-clause-ends : goal.returns-in-Ok-clause-ends
 returns-in-Ok-clause-ends g c =
-    let found = c.serve_terminal.ensures.ends in
-    HasServed (terminal_opening c.in-Ok.lane.iso found.0)
-    (weaker (IsTerminalTalk c.in-Ok.lane.iso found.0) (terminal_programme.Talks c.args.bytes.now (terminal_opening c.in-Ok.lane.iso found.0))
-    (λ turns talk. (c.in-Ok.lane, c.in-Ok.ensures.exact, found.0, found.1, refl, talk)) (terminal_opening c.in-Ok.lane.iso found.0) _ c.serve_terminal.result found.2)
+    let lane = c.in-Ok.lane in
+    HasServed (terminal_opening lane)
+    (weaker (IsTerminalTalk lane) (terminal_programme.Talks c.args.bytes.now (terminal_opening lane))
+    (λ turns talk. (lane, c.in-Ok.ensures.exact, refl, talk)) (terminal_opening lane) _ c.serve_terminal.result c.serve_terminal.ensures.ends)
 
 pub returns-in-Err-clause-ends : goal.returns-in-Err-clause-ends
 returns-in-Err-clause-ends g c = IsRefused _ (c.in-Err.fault, c.in-Err.ensures.exact, refl) refl c.refuse.ensures.told

@@ -1,0 +1,3 @@
+pub mod DecisionText
+pub mod ReasonText
+pub mod StateText

@@ -1,0 +1,44 @@
+use Rattle.std.proofs.Common.{◌≡◌, ◌∙◌, ap, Bool, List, ℕ, [], true, false, subst, sym}
+use Rattle.std.specs.Str.{bytes_eq}
+use Rattle.terminal_at_reader.proofs.Turning.{if_other, if_so, next_is, other_is, rests_turn, settle_is, turn_along}
+use Rattle.terminal_at_reader.specs.Talk.{IsTurnOf, next_line, settle_line, settlement_turn}
+use Rattle.terminal_at_reader.proofs.terminal.answer_resting.Goals as goal
+
+pub returns-then-eq : goal.returns-then-eq
+returns-then-eq c =
+    let is : bytes_eq c.args.line.now next_line ≡ true =
+    sym (c.eq.ensures ∙ ap (λ (bytes : List ℕ). bytes_eq c.args.line.now bytes) c.as_slice.ensures) ∙ c.if-eq.true in
+    record {
+      turn = if_so _ _ c.begin_next.result
+          (λ onward turn.
+          turn_along c.begin_next.new.work c.begin_next.new.text.items onward _ _ (next_is c.args.lane.now c.args.work.now.till c.args.line.now is) turn)
+          c.begin_next.ensures.turn;
+    }
+
+pub returns-then-eq-2 : goal.returns-then-eq-2
+returns-then-eq-2 c =
+    let isnt : bytes_eq c.args.line.now next_line ≡ false =
+    sym (c.eq.ensures ∙ ap (λ (bytes : List ℕ). bytes_eq c.args.line.now bytes) c.as_slice.ensures) ∙ c.if-eq.false in
+    let is : bytes_eq c.args.line.now settle_line ≡ true =
+    sym (c.eq-2.ensures ∙ ap (λ (bytes : List ℕ). bytes_eq c.args.line.now bytes) c.as_slice-2.ensures) ∙ c.if-eq-2.true in
+    record {
+      turn = if_so _ _ c.add_settlement.result
+          (λ onward turn.
+          turn_along c.add_settlement.new.work c.add_settlement.new.text.items onward _ _ (settle_is c.args.lane.now c.args.work.now.till c.args.line.now isnt is)
+          (subst (λ (i : Bool). IsTurnOf c.add_settlement.new.work c.add_settlement.new.text.items onward (settlement_turn i c.args.work.now.till 0 [])) c.is_iso.ensures
+          (subst (λ (t : List ℕ). IsTurnOf c.add_settlement.new.work c.add_settlement.new.text.items onward (settlement_turn c.is_iso.result c.args.work.now.till 0 t)) c.clear.ensures.items turn)))
+          c.add_settlement.ensures.turn;
+    }
+
+pub returns : goal.returns
+returns c =
+    let isnt : bytes_eq c.args.line.now next_line ≡ false =
+    sym (c.eq.ensures ∙ ap (λ (bytes : List ℕ). bytes_eq c.args.line.now bytes) c.as_slice.ensures) ∙ c.if-eq.false in
+    let isnt_settle : bytes_eq c.args.line.now settle_line ≡ false =
+    sym (c.eq-2.ensures ∙ ap (λ (bytes : List ℕ). bytes_eq c.args.line.now bytes) c.as_slice-2.ensures) ∙ c.if-eq-2.false in
+    record {
+      turn = if_other _ _ _ c.put_other.result c.put_other.ensures.told c.put_other.ensures.onward
+          (λ onward told rests.
+          turn_along c.args.work.now c.put_other.new.text.items onward _ _ (other_is c.args.lane.now c.args.work.now.till c.args.line.now isnt isnt_settle)
+          (rests_turn c.args.lane.now c.args.work.now.till c.args.line.now c.args.work.now c.put_other.new.text.items onward c.requires.works told rests));
+    }

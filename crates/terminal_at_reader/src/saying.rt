@@ -1,0 +1,26 @@
+//! Lines that tell what can't be taken.
+ghost use Rattle.std.specs.Prelude.{◌≡◌, OnOk, IfOk};
+ghost use Rattle.line_talk.specs.Talk.{other_line};
+ghost use Rattle.terminal_at_reader.specs.Hearing.{fault_line};
+
+use crate::fault::{ReplyFault, tell_fault};
+use line_talk::{LineText, Onward, put_line};
+use std::alloc::AllocError;
+
+/// Puts the line that tells why a reply can't be read in place of what was there, and nothing of one that can.
+pub fn put_fault(fault: Option<ReplyFault>, text: &mut Vec<u8>) -> Result<(), AllocError>
+    ensures { OnOk result (text.new.items ≡ fault_line fault) }
+{
+    let mut line = LineText::new();
+    tell_fault(fault, &mut line);
+    put_line(text, line.as_slice())
+}
+
+/// Puts the line that answers what is no line of a talk in place of what was there, and tells how it goes on.
+pub fn put_other(onward: Onward, text: &mut Vec<u8>) -> Result<Onward, AllocError>
+    ensures told { OnOk result (text.new.items ≡ other_line) }
+    ensures onward { IfOk result (λ found. found ≡ onward) }
+{
+    put_line(text, b"?\n")?;
+    Ok(onward)
+}
