@@ -10,6 +10,7 @@ use Rattle.apdu_core.specs.Command.{CommandData, command_of}
 use Rattle.ber_tlv.specs.Direct.{sole_value}
 use Rattle.ber_tlv.specs.Left.{items_of}
 use Rattle.ber_tlv.specs.Written.{tag_bytes}
+use Rattle.emv_dict.specs.Digits.{is_pin_length}
 use Rattle.emv_dict.specs.Kinds.{kind_of}
 use Rattle.emv_dict.specs.declared.ending.Kind.{Kind}
 use Rattle.value_words.specs.Words.{word_in}
@@ -27,6 +28,7 @@ use Rattle.report_lines.specs.Pieces.{Piece, line, text, number, hex, word_or}
 use Rattle.object_words.specs.Fields.{fields_words, new_fields_words}
 use Rattle.exchange_words.specs.Lanes.{kept_if_short}
 use Rattle.exchange_words.specs.declared.lane.LaneState.{LaneState}
+use Rattle.exchange_words.specs.declared.phrases.TheConstants.{OTHER_COMMANDS}
 
 -- SELECT (EMV 4.3 Book 1 section 11.3)
 abbrev pub selected_name : List ℕ → List Piece
@@ -68,9 +70,6 @@ abbrev pub has_pin_digits : Option ℕ → ℕ → Bool
 has_pin_digits None count = false
 has_pin_digits (Some digits) count = digits == count
 
-abbrev pub is_pin_length : ℕ → Bool
-is_pin_length count = nat_le 4 count && nat_le count 12
-
 abbrev pub is_pin_block : ℕ → List ℕ → Bool
 is_pin_block control digits =
     control / 16 == 2 && (is_pin_length (control % 16) && (length digits == 7 && has_pin_digits (digits_in digits) (control % 16)))
@@ -89,13 +88,20 @@ abbrev pub external_words : List ℕ → Bool → List Piece
 external_words body brief =
     line 1 ++ text (codes "EXTERNAL AUTHENTICATE") ++ (if brief then [] else text (codes ": ") ++ value_words Authentication (plain 1) body)
 
--- a command of an issuer's script
-abbrev pub issuer_script_words : Option (List Piece) → List Piece
-issuer_script_words None = []
-issuer_script_words (Some words) = words ++ text (codes " (issuer script)")
+-- a command of which the name alone is told, by its class and instruction
+unfoldable pub name_of_command : ℕ → Option (List ℕ)
+name_of_command head = word_in (map (λ w. (w.0, w.1.now)) OTHER_COMMANDS) head
 
-abbrev pub other_command_words : List ℕ → List Piece
-other_command_words bytes = issuer_script_words (script_command_words bytes)
+abbrev pub named_command_words : CommandData → List Piece
+named_command_words command = word_or [] (name_of_command (command.class * 256 + command.ins))
+
+-- a command of an issuer's script, or one of which the name alone is told
+abbrev pub issuer_script_words : Option (List Piece) → List Piece → List Piece
+issuer_script_words None name = name
+issuer_script_words (Some words) name = words ++ text (codes " (issuer script)")
+
+abbrev pub other_command_words : List ℕ → CommandData → List Piece
+other_command_words bytes command = issuer_script_words (script_command_words bytes) (named_command_words command)
 
 -- the fields of the data of GENERATE AC: those of the second beside those of the first
 abbrev pub question_style : LaneState → Option Row → Style
@@ -168,22 +174,22 @@ common_words command brief =
     else if command.ins == 0xB2 then record_words command
     else if command.ins == 0x20 then verify_words command.body brief
     else if command.ins == 0x82 then external_words command.body brief
-    else []
+    else named_command_words command
 
 abbrev pub own_words : LaneState → CommandData → Option Row → Bool → List Piece
 own_words lane command row brief =
     if command.ins == 0xA8 then options_words lane.pdol.items command.body brief
     else if command.ins == 0xCA then get_data_words command
     else if command.ins == 0xAE then question_words lane command row brief
-    else []
+    else named_command_words command
 
--- a command: by its class and instruction, or as one of a script; none where it is no command
+-- a command: by its class and instruction, or as one of a script; nothing where it is no command
 abbrev pub words_of : LaneState → List ℕ → Option CommandData → Option Row → Bool → List Piece
 words_of lane bytes None row brief = []
 words_of lane bytes (Some command) row brief =
     if command.class == 0x00 then common_words command brief
     else if command.class == 0x80 then own_words lane command row brief
-    else other_command_words bytes
+    else other_command_words bytes command
 
 -- a command in words, by its class and instruction, or as one of a script
 unfoldable pub words_of_command : LaneState → List ℕ → Option Row → Bool → List Piece

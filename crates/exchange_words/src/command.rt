@@ -10,11 +10,13 @@ ghost use Rattle.exchange_words.specs.Lanes as spec;
 
 use crate::cryptogram::tell_question;
 use crate::lane::{LaneState, keep};
+use crate::phrases::OTHER_COMMANDS;
 use apdu_core::{Command, read_command};
 use ber_tlv::{Tag, sole_value, tag_bytes};
+use emv_dict::is_pin_length;
 use object_words::{Style, tell_fields, tell_script_command, tell_value};
 use report_lines::WordLines;
-use value_words::{Fields, Form, Row, digits_in, name_of, tell_digits};
+use value_words::{Fields, Form, Row, digits_in, name_of, tell_digits, word_of};
 
 /// Tells the name of SELECT.
 fn tell_selected_name(out: &mut WordLines, name: &[u8])
@@ -103,20 +105,13 @@ fn tell_get_data(out: &mut WordLines, command: &Command<'_>)
     tell_name(out, tag);
 }
 
-/// Whether a PIN may have so many digits.
-fn is_pin_length(count: u8) -> bool
-    ensures { result ≡ words.is_pin_length count }
-{
-    4 <= count && count <= 12
-}
-
 /// Whether the data are a plaintext PIN block: four to twelve digits behind their number in the low half byte (EMV 4.3
 /// Book 3 section 6.5.12).
 fn is_pin_block(control: u8, digits: &[u8]) -> bool
     ensures { result ≡ words.is_pin_block control digits.now }
 {
     control / 16 == 2
-        && is_pin_length(control % 16)
+        && is_pin_length(usize::from(control % 16))
         && digits.len() == 7
         && digits_in(digits) == Some(u64::from(control % 16))
 }
@@ -156,12 +151,30 @@ fn tell_external(out: &mut WordLines, body: &[u8], brief: bool)
     }
 }
 
-/// Tells another command, where it is one of an issuer's script.
-fn tell_other(out: &mut WordLines, bytes: &[u8])
-    ensures { Tells out.old out.new (words.other_command_words bytes.now) }
+/// The name of a command of which no more is told, by its class and instruction.
+fn name_of_command(head: u32) -> Option<&'static [u8]>
+    ensures { option_map (λ word. word.now) result ≡ words.name_of_command head }
+{
+    word_of(&OTHER_COMMANDS, head)
+}
+
+/// Tells the name of a command of which no more is told.
+fn tell_command_name(out: &mut WordLines, command: &Command<'_>)
+    ensures { Tells out.old out.new (words.named_command_words (seen_command command.now)) }
+{
+    if let Some(name) = name_of_command(u32::from(command.class) * 256 + u32::from(command.ins)) {
+        out.text(name);
+    }
+}
+
+/// Tells another command: one of an issuer's script, or its name.
+fn tell_other(out: &mut WordLines, bytes: &[u8], command: &Command<'_>)
+    ensures { Tells out.old out.new (words.other_command_words bytes.now (seen_command command.now)) }
 {
     if tell_script_command(out, bytes) {
         out.text(b" (issuer script)");
+    } else {
+        tell_command_name(out, command);
     }
 }
 
@@ -180,7 +193,7 @@ fn tell_own(
         0xa8 => tell_options(out, lane, command.body, brief),
         0xca => tell_get_data(out, command),
         0xae => tell_question(out, lane, command, row, brief),
-        _ => {}
+        _ => tell_command_name(out, command),
     }
 }
 
@@ -202,7 +215,7 @@ fn tell_common(out: &mut WordLines, command: &Command<'_>, brief: bool)
         0xb2 => tell_record(out, command),
         0x20 => tell_verify(out, command.body, brief),
         0x82 => tell_external(out, command.body, brief),
-        _ => {}
+        _ => tell_command_name(out, command),
     }
 }
 
@@ -225,7 +238,7 @@ fn tell_known(
                 tell_common(out, &command, brief);
             }
             0x80 => tell_own(out, lane, &command, row, brief),
-            _ => tell_other(out, bytes),
+            _ => tell_other(out, bytes, &command),
         },
         Err(_) => {}
     }

@@ -12,7 +12,7 @@ use value_words::number_in;
 const DEPTH: u8 = 8;
 
 /// The value of the first object of this tag, also within others, so many deep at most.
-pub(crate) fn find_deep(bytes: &[u8], tag: Tag, more: u8) -> Option<&[u8]>
+pub fn find_deep(bytes: &[u8], tag: Tag, more: u8) -> Option<&[u8]>
     ensures { option_map (λ value. value.now) result ≡ spec.found_deep more tag.0 bytes.now }
 {
     let mut cursor = Cursor::new(bytes);

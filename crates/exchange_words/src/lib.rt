@@ -19,5 +19,6 @@ pub use command::tell_command;
 pub use cryptogram::first_fields;
 pub use kind::{kind_name, tell_kind};
 pub use lane::{LaneState, keep};
+pub use learn::find_deep;
 pub use terminal::{Terminal, row_for};
 pub use torn::tell_torn;

@@ -49,7 +49,7 @@ pub record Ended (way : Way) (seen : List ℕ) (first held : Option (List ℕ)) 
   pub written : Appends first held output
 
 -- the count of the sink's faults over one call
-abbrev pub HasStop : {T : Type 0} → ℕ → ℕ → Result T Stop → Type 0
-HasStop before now (Ok value) = now ≡ before
-HasStop before now (Err Sink) = Rose before now
-HasStop before now (Err OutOfMemory) = now ≡ before
+abbrev pub HasToldStop : {T : Type 0} → ℕ → ℕ → Result T Stop → Type 0
+HasToldStop before now (Ok value) = now ≡ before
+HasToldStop before now (Err Sink) = Rose before now
+HasToldStop before now (Err OutOfMemory) = now ≡ before

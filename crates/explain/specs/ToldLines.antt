@@ -27,18 +27,18 @@ way_by manner = record { all = shows_all manner.filter; manner = manner }
 
 -- the manner and the way of these options
 abbrev pub manner_in : Options → Manner
-manner_in options = record { filter = options.filter; terminals = options.terminals.items }
+manner_in options = record { filter = options.filter; terminals = options.terminals.items; card_apps = options.card_apps.items; accounts = options.accounts.items }
 
 abbrev pub way_of : Options → Way
 way_of options = way_by (manner_in options)
 
 -- every line with all its words
 abbrev pub unfiltered : Filter
-unfiltered = record { brief = false; ends = false; lane = None; purchase = None }
+unfiltered = record { brief = false; why = false; ends = false; lane = None; purchase = None }
 
--- each line, with all words, where nothing is known of the terminals
+-- each line, with all words, where nothing is known of terminals, cards and accounts
 abbrev pub whole_way : Way
-whole_way = record { all = true; manner = record { filter = unfiltered; terminals = [] } }
+whole_way = record { all = true; manner = record { filter = unfiltered; terminals = []; card_apps = []; accounts = [] } }
 
 -- the most bytes of a line that is told in words
 abbrev pub most_told : ℕ

@@ -1,14 +1,17 @@
 //! The words of the command line.
 ghost use Rattle.std.specs.Prelude.{◌≡◌, ◌<◌, ◌≤◌, ◌∷◌, length, map, string_bytes, true, false, Some, None, option_map, IfSome, IfOk, IfErr, OnOk};
 ghost use Rattle.report_lines.specs.Reading.{lane_in};
-ghost use Rattle.explain.specs.Grammar.{bytes_in_hex, app_name_of, action_code, reach_in, partial_in, terminal_row_in, terminal_of, option_alone, option_with_argument, manner_of_words, RefusesWords};
+ghost use Rattle.explain.specs.Grammar.{bytes_in_hex, app_name_of, sized_number, action_code, reach_in, partial_in, terminal_row_in, terminal_of, app_place_in, currency_in, second_currency_in, limits_in, card_app_of, account_number_of, known_account_of, option_alone, option_with_argument, manner_of_words, RefusesWords};
+ghost use Rattle.exchange_words.specs.Lanes.{kept_if_short};
 ghost use Rattle.explain.specs.Taking as spec;
 ghost use Rattle.explain.specs.Taking.{options_behind, with_option};
 ghost use Rattle.explain.specs.ToldLines.{manner_in};
 
 use arrayvec::ArrayVec;
-use exchange_words::Terminal;
+use exchange_words::{Terminal, keep};
+use issuer_reasons::Account;
 use narrator::Filter;
+use purchase_reasons::{CardApp, Limits};
 use report_lines::{number_of, split_at_comma};
 use std::alloc::Global;
 use value_words::{Reach, Row, number_in, reach_of};
@@ -18,6 +21,8 @@ use value_words::{Reach, Row, number_in, reach_of};
 pub struct Options {
     pub filter: Filter,
     pub terminals: Vec<Terminal>,
+    pub card_apps: Vec<CardApp>,
+    pub accounts: Vec<Account>,
 }
 
 /// One option of the command line.
@@ -27,12 +32,18 @@ pub enum OptionGiven {
     Brief,
     /// `--ends`
     Ends,
+    /// `--why`
+    Why,
     /// `--lane N`
     Lane(u8),
     /// `--purchase N`
     Purchase(u64),
     /// `--terminal T`
     OneTerminal(Terminal),
+    /// `--card T`
+    OneApp(CardApp),
+    /// `--account T`
+    OneAccount(Account),
 }
 
 /// Why there are no options.
@@ -66,16 +77,24 @@ fn read_name(text: &[u8]) -> Option<ArrayVec<u8, 16>>
     if name.len() >= 5 { Some(name) } else { None }
 }
 
-/// An action code: five bytes as one number.
-fn read_code(text: &[u8]) -> Option<u64>
-    ensures { result ≡ action_code text.now }
+/// So many bytes as one number, 16 at most.
+fn read_number(text: &[u8], count: usize) -> Option<u64>
+    requires { count ≤ 16 }
+    ensures { result ≡ sized_number count text.now }
 {
     let bytes = read_bytes(text)?;
-    if bytes.len() == 5 {
+    if bytes.len() == count {
         Some(number_in(bytes.as_slice()))
     } else {
         None
     }
+}
+
+/// An action code: five bytes as one number.
+fn read_code(text: &[u8]) -> Option<u64>
+    ensures { result ≡ action_code text.now }
+{
+    read_number(text, 5)
 }
 
 /// Where a terminal of this kind may decide.
@@ -141,6 +160,107 @@ fn read_terminal(text: &[u8]) -> Option<Terminal>
     })
 }
 
+/// The name of a card: up to 16 characters.
+fn read_card(text: &[u8]) -> ArrayVec<u8, 16>
+    ensures { result.items ≡ kept_if_short 16 text.now }
+{
+    let mut card = ArrayVec::new();
+    keep(&mut card, text);
+    card
+}
+
+/// The place of an application on its card, from 0 to 3.
+fn read_place(text: &[u8]) -> Option<u8>
+    ensures { result ≡ app_place_in text.now }
+{
+    let number = number_of(text)?;
+    if number <= 3 {
+        Some(number as u8)
+    } else {
+        None
+    }
+}
+
+/// A currency: two bytes as one number.
+fn read_currency(text: &[u8]) -> Option<u64>
+    ensures { result ≡ currency_in text.now }
+{
+    read_number(text, 2)
+}
+
+/// The second currency, `-` where there is none.
+fn read_second(text: &[u8]) -> Option<Option<u64>>
+    ensures { result ≡ second_currency_in text.now }
+{
+    if text == b"-".as_slice() {
+        return Some(None);
+    }
+    Some(Some(read_currency(text)?))
+}
+
+/// An application's limits: `COUNT,SUM,CURRENCY,SUM,CURRENCY`, those of the second currency last.
+#[tactic(auto, unfolding(crate::specs::Grammar::limits_in))]
+fn read_limits(text: &[u8]) -> Option<Limits>
+    ensures { result ≡ limits_in text.now }
+{
+    let (count, rest) = split_at_comma(text);
+    let (sum, rest) = split_at_comma(rest);
+    let (currency, rest) = split_at_comma(rest);
+    let (second_sum, second_currency) = split_at_comma(rest);
+    Some(Limits {
+        count: number_of(count)?,
+        sum: number_of(sum)?,
+        currency: read_currency(currency)?,
+        second_sum: number_of(second_sum)?,
+        second_currency: read_second(second_currency)?,
+    })
+}
+
+/// What a card has for an application: `CARD,PLACE,AID,COUNT,SUM,CURRENCY,SUM,CURRENCY`.
+#[tactic(auto, unfolding(crate::specs::Grammar::card_app_of))]
+fn read_app(text: &[u8]) -> Option<CardApp>
+    ensures { result ≡ card_app_of text.now }
+{
+    let (card, rest) = split_at_comma(text);
+    let (place, rest) = split_at_comma(rest);
+    let (name, limits) = split_at_comma(rest);
+    Some(CardApp {
+        card: read_card(card),
+        place: read_place(place)?,
+        name: read_name(name)?,
+        limits: read_limits(limits)?,
+    })
+}
+
+/// An account number in hexadecimal, as object 5A has it.
+fn read_pan(text: &[u8]) -> Option<ArrayVec<u8, 10>>
+    ensures { option_map (λ pan. pan.items) result ≡ account_number_of text.now }
+{
+    let bytes = read_bytes(text)?;
+    if bytes.len() > 10 {
+        return None;
+    }
+    let mut pan = ArrayVec::new();
+    keep(&mut pan, bytes.as_slice());
+    Some(pan)
+}
+
+/// What an account has: `PAN,BALANCE,BLOCKED,CURRENCY`.
+#[tactic(auto, unfolding(crate::specs::Grammar::known_account_of))]
+fn read_account(text: &[u8]) -> Option<Account>
+    ensures { result ≡ known_account_of text.now }
+{
+    let (pan, rest) = split_at_comma(text);
+    let (balance, rest) = split_at_comma(rest);
+    let (blocked, currency) = split_at_comma(rest);
+    Some(Account {
+        pan: read_pan(pan)?,
+        balance: number_of(balance)?,
+        blocked: read_partial(blocked)?,
+        currency: read_currency(currency)?,
+    })
+}
+
 /// The option of a word that stands alone.
 #[tactic(auto, unfolding(crate::specs::Grammar::option_alone))]
 fn read_alone(word: &String) -> Option<OptionGiven>
@@ -149,6 +269,7 @@ fn read_alone(word: &String) -> Option<OptionGiven>
     match word.as_str() {
         "--brief" => Some(OptionGiven::Brief),
         "--ends" => Some(OptionGiven::Ends),
+        "--why" => Some(OptionGiven::Why),
         _ => None,
     }
 }
@@ -162,6 +283,8 @@ fn read_with(word: &String, argument: &[u8]) -> Option<OptionGiven>
         "--lane" => Some(OptionGiven::Lane(read_lane(argument)?)),
         "--purchase" => Some(OptionGiven::Purchase(number_of(argument)?)),
         "--terminal" => Some(OptionGiven::OneTerminal(read_terminal(argument)?)),
+        "--card" => Some(OptionGiven::OneApp(read_app(argument)?)),
+        "--account" => Some(OptionGiven::OneAccount(read_account(argument)?)),
         _ => None,
     }
 }
@@ -178,7 +301,7 @@ fn take_flag(flag: &mut bool) -> Result<(), NoOptions>
     Ok(())
 }
 
-/// Takes one option more: each but `--terminal` once.
+/// Takes one option more: each but `--terminal`, `--card` and `--account` once.
 fn take(options: &mut Options, given: OptionGiven) -> Result<(), NoOptions>
     ensures ok { OnOk result (with_option (manner_in options.old) given ≡ Some (manner_in options.new)) }
     ensures err { IfErr result (λ no. RefusesWords no (with_option (manner_in options.old) given)) }
@@ -186,6 +309,7 @@ fn take(options: &mut Options, given: OptionGiven) -> Result<(), NoOptions>
     match given {
         OptionGiven::Brief => take_flag(&mut options.filter.brief),
         OptionGiven::Ends => take_flag(&mut options.filter.ends),
+        OptionGiven::Why => take_flag(&mut options.filter.why),
         OptionGiven::Lane(lane) => {
             if options.filter.lane.is_some() {
                 return Err(NoOptions::Words);
@@ -201,6 +325,14 @@ fn take(options: &mut Options, given: OptionGiven) -> Result<(), NoOptions>
             Ok(())
         }
         OptionGiven::OneTerminal(terminal) => match options.terminals.push(terminal) {
+            Ok(()) => Ok(()),
+            Err(_) => Err(NoOptions::OutOfMemory),
+        },
+        OptionGiven::OneApp(app) => match options.card_apps.push(app) {
+            Ok(()) => Ok(()),
+            Err(_) => Err(NoOptions::OutOfMemory),
+        },
+        OptionGiven::OneAccount(account) => match options.accounts.push(account) {
             Ok(()) => Ok(()),
             Err(_) => Err(NoOptions::OutOfMemory),
         },
@@ -265,7 +397,8 @@ fn take_options(options: Options, words: &[String]) -> Result<Options, NoOptions
     Ok(options)
 }
 
-/// Reads `[--brief] [--ends] [--lane N] [--purchase N] [--terminal T]...`, in any order.
+/// Reads `[--brief] [--ends] [--why] [--lane N] [--purchase N] [--terminal T]... [--card T]...
+/// [--account T]...`, in any order.
 #[tactic(auto, unfolding(crate::specs::Grammar::manner_of_words, crate::specs::Taking::options_behind))]
 pub fn read_options(alloc: Global, words: &[String]) -> Result<Options, NoOptions>
     // They are what the words ask for.
@@ -276,11 +409,14 @@ pub fn read_options(alloc: Global, words: &[String]) -> Result<Options, NoOption
     let options = Options {
         filter: Filter {
             brief: false,
+            why: false,
             ends: false,
             lane: None,
             purchase: None,
         },
         terminals: Vec::new(alloc),
+        card_apps: Vec::new(alloc),
+        accounts: Vec::new(alloc),
     };
     take_options(options, words)
 }

@@ -192,7 +192,7 @@ fn other_words_give_the_usage_line(rt: HostRuntime) -> Result<(), Fail> {
         assert_eq!(rt; status, 2);
         assert_eq!(rt;
             text.as_slice(),
-            b"usage: explain [--brief] [--ends] [--lane N] [--purchase N] [--terminal T]...\n".as_slice()
+            b"usage: explain [--brief] [--ends] [--why] [--lane N] [--purchase N] [--terminal T]... [--card T]... [--account T]...\n".as_slice()
         );
     }
     Ok(())

@@ -7,7 +7,7 @@ ghost use Rattle.emv_ports.specs.Growth.{AppendsFront};
 ghost use Rattle.narrator.specs.State.{seen_state};
 ghost use Rattle.narrator.specs.Words.{Narrates, is_text_left};
 ghost use Rattle.report_lines.specs.Lines.{AreWordLines};
-ghost use Rattle.explain.specs.ReportSoFar.{IsReportSoFar, TellingWasStopped, Ended, HasStop, way_in, stand_of};
+ghost use Rattle.explain.specs.ReportSoFar.{IsReportSoFar, TellingWasStopped, Ended, HasToldStop, way_in, stand_of};
 ghost use Rattle.explain.specs.ToldLines.{rest_behind_lines};
 
 use arrayvec::ArrayVec;
@@ -45,7 +45,7 @@ pub struct Teller {
 fn put<K: Sink>(sink: &mut K, text: &[u8]) -> Result<(), Stop>
     ensures all { OnOk result (Appends (K.held sink.old) (K.held sink.new) text.now) }
     ensures front { OnErr result (AppendsFront (K.held sink.old) (K.held sink.new) text.now) }
-    ensures stop { HasStop (K.faults sink.old) (K.faults sink.new) result }
+    ensures stop { HasToldStop (K.faults sink.old) (K.faults sink.new) result }
 {
     match write_all(sink, text) {
         Ok(()) => Ok(()),
@@ -57,7 +57,7 @@ fn put<K: Sink>(sink: &mut K, text: &[u8]) -> Result<(), Stop>
 fn put_rest<K: Sink>(sink: &mut K, all: bool, text: &[u8]) -> Result<(), Stop>
     ensures all { OnOk result (Appends (K.held sink.old) (K.held sink.new) (rest_behind_lines all text.now)) }
     ensures front { OnErr result (AppendsFront (K.held sink.old) (K.held sink.new) (rest_behind_lines all text.now)) }
-    ensures stop { HasStop (K.faults sink.old) (K.faults sink.new) result }
+    ensures stop { HasToldStop (K.faults sink.old) (K.faults sink.new) result }
 {
     if all { put(sink, text) } else { Ok(()) }
 }
@@ -66,7 +66,7 @@ fn put_rest<K: Sink>(sink: &mut K, all: bool, text: &[u8]) -> Result<(), Stop>
 fn put_line<K: Sink>(sink: &mut K, text: &[u8]) -> Result<(), Stop>
     ensures all { OnOk result (Appends (K.held sink.old) (K.held sink.new) (text.now ++ 10 ∷ [])) }
     ensures front { OnErr result (AppendsFront (K.held sink.old) (K.held sink.new) (text.now ++ 10 ∷ [])) }
-    ensures stop { HasStop (K.faults sink.old) (K.faults sink.new) result }
+    ensures stop { HasToldStop (K.faults sink.old) (K.faults sink.new) result }
 {
     match put(sink, text) {
         Ok(()) => put(sink, b"\n"),
@@ -78,7 +78,7 @@ fn put_line<K: Sink>(sink: &mut K, text: &[u8]) -> Result<(), Stop>
 fn put_end<K: Sink>(sink: &mut K, all: bool, text: &[u8]) -> Result<(), Stop>
     ensures all { OnOk result (Appends (K.held sink.old) (K.held sink.new) (rest_behind_lines all (text.now ++ 10 ∷ []))) }
     ensures front { OnErr result (AppendsFront (K.held sink.old) (K.held sink.new) (rest_behind_lines all (text.now ++ 10 ∷ []))) }
-    ensures stop { HasStop (K.faults sink.old) (K.faults sink.new) result }
+    ensures stop { HasToldStop (K.faults sink.old) (K.faults sink.new) result }
 {
     if all { put_line(sink, text) } else { Ok(()) }
 }
@@ -87,7 +87,7 @@ fn put_end<K: Sink>(sink: &mut K, all: bool, text: &[u8]) -> Result<(), Stop>
 fn put_told<K: Sink>(sink: &mut K, text: &[u8], words: &[u8]) -> Result<(), Stop>
     ensures all { OnOk result (Appends (K.held sink.old) (K.held sink.new) ((text.now ++ 10 ∷ []) ++ words.now)) }
     ensures front { OnErr result (AppendsFront (K.held sink.old) (K.held sink.new) ((text.now ++ 10 ∷ []) ++ words.now)) }
-    ensures stop { HasStop (K.faults sink.old) (K.faults sink.new) result }
+    ensures stop { HasToldStop (K.faults sink.old) (K.faults sink.new) result }
 {
     match put_line(sink, text) {
         Ok(()) => put(sink, words),
@@ -99,7 +99,7 @@ fn put_told<K: Sink>(sink: &mut K, text: &[u8], words: &[u8]) -> Result<(), Stop
 fn put_shown<K: Sink>(sink: &mut K, shown: bool, text: &[u8], words: &[u8]) -> Result<(), Stop>
     ensures all { OnOk result (Appends (K.held sink.old) (K.held sink.new) (if shown then (text.now ++ 10 ∷ []) ++ words.now else [])) }
     ensures front { OnErr result (AppendsFront (K.held sink.old) (K.held sink.new) (if shown then (text.now ++ 10 ∷ []) ++ words.now else [])) }
-    ensures stop { HasStop (K.faults sink.old) (K.faults sink.new) result }
+    ensures stop { HasToldStop (K.faults sink.old) (K.faults sink.new) result }
 {
     if shown {
         put_told(sink, text, words)
@@ -116,7 +116,7 @@ fn flush<K: Sink>(teller: &mut Teller, sink: &mut K) -> Result<(), Stop>
     ensures front { OnErr result (AppendsFront (K.held sink.old) (K.held sink.new) (rest_behind_lines teller.old.all teller.old.line.items)) }
     ensures empty { OnOk result (array_vec_len teller.new.line ≡ 0) }
     ensures way { way_in teller.new ≡ way_in teller.old }
-    ensures stop { HasStop (K.faults sink.old) (K.faults sink.new) result }
+    ensures stop { HasToldStop (K.faults sink.old) (K.faults sink.new) result }
 {
     match put_rest(sink, teller.all, teller.line.as_slice()) {
         Ok(()) => {
@@ -135,7 +135,7 @@ fn make_room<K: Sink>(teller: &mut Teller, sink: &mut K) -> Result<(), Stop>
     ensures front { OnErr result (AppendsFront (K.held sink.old) (K.held sink.new) (rest_behind_lines teller.old.all teller.old.line.items)) }
     ensures room { OnOk result (array_vec_len teller.new.line ≤ 8191) }
     ensures way { way_in teller.new ≡ way_in teller.old }
-    ensures stop { HasStop (K.faults sink.old) (K.faults sink.new) result }
+    ensures stop { HasToldStop (K.faults sink.old) (K.faults sink.new) result }
 {
     if teller.line.len() < MOST {
         return Ok(());
@@ -151,7 +151,7 @@ fn take_inner<K: Sink>(teller: &mut Teller, byte: u8, sink: &mut K) -> Result<()
     ensures err { OnErr result ((seen : List ℕ) (first : Option (List ℕ)) → IsReportSoFar (way_in teller.old) teller.old.line.items (stand_of teller.old) seen first (K.held sink.old)
         → TellingWasStopped (way_in teller.old) (seen ++ byte ∷ []) first (K.held sink.new)) }
     ensures way { way_in teller.new ≡ way_in teller.old }
-    ensures stop { HasStop (K.faults sink.old) (K.faults sink.new) result }
+    ensures stop { HasToldStop (K.faults sink.old) (K.faults sink.new) result }
 {
     match make_room(teller, sink) {
         Ok(()) => {
@@ -170,7 +170,7 @@ fn end_long<K: Sink>(teller: &mut Teller, sink: &mut K) -> Result<(), Stop>
     ensures err { OnErr result ((seen : List ℕ) (first : Option (List ℕ)) → IsReportSoFar (way_in teller.old) teller.old.line.items (stand_of teller.old) seen first (K.held sink.old)
         → TellingWasStopped (way_in teller.old) (seen ++ 10 ∷ []) first (K.held sink.new)) }
     ensures way { way_in teller.new ≡ way_in teller.old }
-    ensures stop { HasStop (K.faults sink.old) (K.faults sink.new) result }
+    ensures stop { HasToldStop (K.faults sink.old) (K.faults sink.new) result }
 {
     match put_end(sink, teller.all, teller.line.as_slice()) {
         Ok(()) => {
@@ -209,7 +209,7 @@ fn end_short<K: Sink>(teller: &mut Teller, sink: &mut K) -> Result<(), Stop>
     ensures err { OnErr result ((seen : List ℕ) (first : Option (List ℕ)) → IsReportSoFar (way_in teller.old) teller.old.line.items (stand_of teller.old) seen first (K.held sink.old)
         → (taken : ℕ) × TellingWasStopped (way_in teller.old) (seen ++ take taken (10 ∷ [])) first (K.held sink.new)) }
     ensures way { way_in teller.new ≡ way_in teller.old }
-    ensures stop { HasStop (K.faults sink.old) (K.faults sink.new) result }
+    ensures stop { HasToldStop (K.faults sink.old) (K.faults sink.new) result }
 {
     let shown = match tell(teller) {
         Ok(shown) => shown,
@@ -231,7 +231,7 @@ fn take_byte<K: Sink>(teller: &mut Teller, byte: u8, sink: &mut K) -> Result<(),
     ensures err { OnErr result ((seen : List ℕ) (first : Option (List ℕ)) → IsReportSoFar (way_in teller.old) teller.old.line.items (stand_of teller.old) seen first (K.held sink.old)
         → (taken : ℕ) × TellingWasStopped (way_in teller.old) (seen ++ take taken (byte ∷ [])) first (K.held sink.new)) }
     ensures way { way_in teller.new ≡ way_in teller.old }
-    ensures stop { HasStop (K.faults sink.old) (K.faults sink.new) result }
+    ensures stop { HasToldStop (K.faults sink.old) (K.faults sink.new) result }
 {
     if byte != b'\n' {
         take_inner(teller, byte, sink)
@@ -249,7 +249,7 @@ pub fn take_bytes<K: Sink>(teller: &mut Teller, bytes: &[u8], sink: &mut K) -> R
     ensures err { OnErr result ((seen : List ℕ) (first : Option (List ℕ)) → IsReportSoFar (way_in teller.old) teller.old.line.items (stand_of teller.old) seen first (K.held sink.old)
         → (taken : ℕ) × TellingWasStopped (way_in teller.old) (seen ++ take taken bytes.now) first (K.held sink.new)) }
     ensures way { way_in teller.new ≡ way_in teller.old }
-    ensures stop { HasStop (K.faults sink.old) (K.faults sink.new) result }
+    ensures stop { HasToldStop (K.faults sink.old) (K.faults sink.new) result }
 {
     for byte in bytes {
         match take_byte(teller, *byte, sink) {
@@ -266,7 +266,7 @@ pub fn end<K: Sink>(teller: &mut Teller, sink: &mut K) -> Result<(), Stop>
         → Ended (way_in teller.old) seen first (K.held sink.new)) }
     ensures err { OnErr result ((seen : List ℕ) (first : Option (List ℕ)) → IsReportSoFar (way_in teller.old) teller.old.line.items (stand_of teller.old) seen first (K.held sink.old)
         → TellingWasStopped (way_in teller.old) seen first (K.held sink.new)) }
-    ensures stop { HasStop (K.faults sink.old) (K.faults sink.new) result }
+    ensures stop { HasToldStop (K.faults sink.old) (K.faults sink.new) result }
 {
     put_rest(sink, teller.all, teller.line.as_slice())
 }

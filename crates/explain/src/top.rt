@@ -20,7 +20,7 @@ use std::alloc::{AllocError, Global};
 
 /// The line that answers words which are not in the grammar.
 const USAGE: &[u8] =
-    b"usage: explain [--brief] [--ends] [--lane N] [--purchase N] [--terminal T]...\n";
+    b"usage: explain [--brief] [--ends] [--why] [--lane N] [--purchase N] [--terminal T]... [--card T]... [--account T]...\n";
 
 /// The most bytes that are read.
 const MOST_READ: u64 = 4_611_686_018_427_387_904;
@@ -98,7 +98,13 @@ fn begin(alloc: Global, options: Options) -> Result<Teller, AllocError>
     ensures way { IfOk result (λ teller. way_in teller ≡ way_of options) }
 {
     let all = options.filter.shows_all();
-    let narrator = Narrator::new(alloc, options.filter, options.terminals)?;
+    let narrator = Narrator::new(
+        alloc,
+        options.filter,
+        options.terminals,
+        options.card_apps,
+        options.accounts,
+    )?;
     Ok(Teller {
         narrator,
         words: WordLines::new(alloc),
@@ -144,9 +150,10 @@ fn answer_usage<K: Sink>(sink: &mut K) -> u8
 }
 
 /// Answers these words: explains the report that `source` gives, line by line, to `sink`, and gives the
-/// exit status. The words are `[--brief] [--ends] [--lane N] [--purchase N] [--terminal T]...`, in any
-/// order. Each line is handed on as soon as its words are made. A line of more than 8,192 bytes, one of
-/// another form than a report's, and what stands behind the last newline have no words.
+/// exit status. The words are `[--brief] [--ends] [--why] [--lane N] [--purchase N] [--terminal T]...
+/// [--card T]... [--account T]...`, in any order. Each line is handed on as soon as its words are made. A line
+/// of more than 8,192 bytes, one of another form than a report's, and what stands behind the last newline have
+/// no words.
 pub fn run<S: Source, K: Sink>(alloc: Global, words: &[String], source: &mut S, sink: &mut K) -> u8
     // 0: all that the source had left was read, and the sink got its lines in order and unchanged, each with
     // none or some lines of words that begin with two blanks, or left out by a filter, in the manner that the

@@ -5,7 +5,8 @@ use Rattle.ber_tlv.specs.Left.{fault_of, items_of}
 use Rattle.value_words.specs.declared.names.Form.TheVariants.{Response}
 use Rattle.report_lines.specs.Pieces.{Piece, line, text, number}
 use Rattle.message_words.specs.Fields.{field_contents, named_from}
-use Rattle.message_words.specs.Iso.{MessageData, characters_words, field_word, content_words, message_words, behind_blank, type_word}
+use Rattle.object_words.specs.Results.{behind_blank}
+use Rattle.message_words.specs.Iso.{MessageData, characters_words, field_word, content_words, message_words, type_word}
 use Rattle.message_words.specs.Messages.{objects_reply}
 use Rattle.message_words.specs.Objects.{styled, borrowed}
 use Rattle.message_words.proofs.Alike.{said, value-alike, objects-alike, each-alike}

@@ -6,6 +6,7 @@ use Rattle.value_words.specs.declared.codes.TheConstants.{FIELDS, MESSAGE_TYPES}
 use Rattle.value_words.specs.declared.names.Form.TheVariants.{Response}
 use Rattle.value_words.specs.Plain.{hex_words}
 use Rattle.object_words.specs.Objects.{objects_words, value_words}
+use Rattle.object_words.specs.Results.{behind_blank}
 use Rattle.object_words.specs.declared.style.Style.{Style}
 use Rattle.report_lines.specs.Pieces.{Piece, line, text, number}
 use Rattle.message_words.specs.Fields.{four_digits, cut_field, named_from, field_contents, begins_with_code}
@@ -53,10 +54,6 @@ characters_words style number bytes =
     if number == 52 then hex_words bytes
     else if number == 39 then value_words Response style bytes
     else text bytes
-
-abbrev pub behind_blank : Option (List ℕ) → List Piece
-behind_blank None = []
-behind_blank (Some word) = text (codes " ") ++ text word
 
 -- a field in a line of its own: its number, its name, and its content
 abbrev pub iso_field_words : Style → ℕ → List ℕ → List Piece

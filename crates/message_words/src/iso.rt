@@ -5,6 +5,7 @@ ghost use Rattle.report_lines.specs.Pieces.{Tells};
 ghost use Rattle.message_words.specs.Fields.{cut_field};
 ghost use Rattle.message_words.specs.Iso as spec;
 ghost use Rattle.message_words.specs.Objects.{sent_before};
+ghost use Rattle.object_words.specs.Results.{behind_blank};
 
 use crate::fields::{begins_with_code, cut_field, four_digits, is_named};
 use crate::objects::tell_objects_beside;
@@ -90,7 +91,7 @@ fn tell_characters(out: &mut WordLines, number: u32, content: &[u8], style: &Sty
 
 /// Tells a word behind a blank, where there is one.
 fn tell_behind(out: &mut WordLines, word: Option<&'static [u8]>)
-    ensures { Tells out.old out.new (spec.behind_blank (option_map (λ word. word.now) word.entry)) }
+    ensures { Tells out.old out.new (behind_blank (option_map (λ word. word.now) word.entry)) }
 {
     if let Some(word) = word {
         out.text(b" ");

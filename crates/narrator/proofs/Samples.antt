@@ -20,7 +20,7 @@ use Rattle.narrator.specs.Words.{words_by, state_by}
 
 -- all words, and nothing is known of the terminals
 abbrev whole : Manner
-whole = record { filter = record { brief = false; ends = false; lane = None; purchase = None }; terminals = [] }
+whole = record { filter = record { brief = false; why = false; ends = false; lane = None; purchase = None }; terminals = []; card_apps = []; accounts = [] }
 
 -- the words of a text, and what it leaves
 abbrev words_behind : StateData → List ℕ → List ℕ

@@ -9,6 +9,8 @@ use Rattle.exchange_words.specs.Lanes.{without_command}
 use Rattle.exchange_words.specs.Terminals.{row_for}
 use Rattle.exchange_words.specs.Torn.{torn_words}
 use Rattle.exchange_words.specs.declared.terminal.Terminal.{Terminal}
+use Rattle.purchase_reasons.specs.Kept.{CardsData}
+use Rattle.purchase_reasons.specs.Reasons.{reasons_words}
 use Rattle.value_words.specs.Fields.{fields_of}
 use Rattle.message_words.specs.Messages.{call_words, reply_words}
 use Rattle.message_words.specs.declared.host.Settled.TheVariants.{Nothing}
@@ -16,7 +18,7 @@ use Rattle.object_words.specs.Objects.{object_words, plain}
 use Rattle.message_words.specs.Cards.{power_words}
 use Rattle.report_lines.specs.Bytes.{bytes_told}
 use Rattle.report_lines.specs.Reading.{LineData, WhatData, WhoseData, EndingData, EndLineFields, line_in, Lane, Settlement, Audit, Report, Power, PowerTorn, PowerCanned, Sent, Given, Torn, ToHost, FromHost, End, Gone, NoReply, Lost, Object, Refused, Differs, ReadEnded}
-use Rattle.narrator.specs.Endings.{break_words, end_words, hex_number}
+use Rattle.ending_words.specs.Endings.{break_words, end_words, hex_number}
 use Rattle.narrator.specs.Filters.{is_left_by_filters, shows_all}
 use Rattle.narrator.specs.State.{Manner, StateData, state_left_by, audit_place}
 use Rattle.narrator.specs.declared.filter.Filter.{Filter}
@@ -128,6 +130,18 @@ torn_at past = at_past (λ it. torn_words it.talk.command.items) past
 abbrev pub lane_end_words : Option LanePast → EndingData → EndLineFields → Bool → List Piece
 lane_end_words past ending fields brief = at_past (λ it. end_words it.talk ending fields brief) past
 
+-- what is known of the cards: beside the report, and by its lines
+abbrev pub cards_known : Manner → StateData → CardsData
+cards_known manner state = record { apps = manner.card_apps; changed = state.changed; seen = state.cards }
+
+-- why a lane's purchase came out so
+abbrev pub reasons_at : Manner → StateData → Option LanePast → List Piece
+reasons_at manner state past = at_past (λ it. reasons_words it.followed it.talk (cards_known manner state)) past
+
+-- and that, where it is asked for
+abbrev pub why_at : Manner → StateData → Option LanePast → List Piece
+why_at manner state past = (if manner.filter.why then reasons_at manner state past else [])
+
 -- a line of a lane or of the audit
 abbrev pub at_lane : Manner → StateData → ℕ → WhatData → List Piece
 at_lane manner state place (Power card apps) = power_words state.cards card apps
@@ -136,7 +150,8 @@ at_lane manner state place (Given text) = talk_words manner state place (Given t
 at_lane manner state place (ToHost text) = talk_words manner state place (ToHost text) (bytes_told text)
 at_lane manner state place (FromHost text) = talk_words manner state place (FromHost text) (bytes_told text)
 at_lane manner state place Torn = torn_at (slice_get state.lanes place)
-at_lane manner state place (End number ending fields) = lane_end_words (slice_get state.lanes place) ending fields manner.filter.brief
+at_lane manner state place (End number ending fields) =
+    lane_end_words (slice_get state.lanes place) ending fields manner.filter.brief ++ why_at manner state (slice_get state.lanes place)
 at_lane manner state place what = unwrap_or (of_talk what) []
 
 abbrev pub by_whose : Manner → StateData → WhoseData → WhatData → List Piece

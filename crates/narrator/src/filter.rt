@@ -10,6 +10,8 @@ use report_lines::{ReportLine, What, Whose};
 pub struct Filter {
     /// Words of objects, fields, list entries, rules and bits are left out.
     pub brief: bool,
+    /// Why each purchase came out as it did is told, a line a party.
+    pub why: bool,
     /// Power, end, balance and done lines alone.
     pub ends: bool,
     /// The lines of this lane alone.

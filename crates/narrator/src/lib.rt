@@ -1,8 +1,6 @@
 //! Tells each line of a report in words, from the line and from what the lines before it left.
 #![tactic(auto)]
 
-pub mod digits;
-pub mod ending;
 pub mod filter;
 pub mod narrator;
 pub mod past;

@@ -6,18 +6,22 @@ ghost use Rattle.narrator.specs.State.{seen_state};
 ghost use Rattle.narrator.specs.Filters.{shows_all};
 ghost use Rattle.narrator.specs.Words as spec;
 ghost use Rattle.narrator.specs.Words.{Narrates, is_text_left};
+ghost use Rattle.purchase_reasons.specs.Kept.{cards_data};
 ghost use Rattle.report_lines.specs.Bytes.{bytes_told};
 ghost use Rattle.report_lines.specs.Reading.{seen_ending, seen_fields, seen_line, seen_what, seen_whose};
 ghost use Rattle.report_lines.specs.Lines.{AreWordLines};
 ghost use Rattle.report_lines.specs.Pieces.{Tells};
 
-use crate::ending::tell_end;
 use crate::filter::Filter;
 use crate::past::LanePast;
 use crate::phrases::{CARD_GONE, NO_REPLY, POWER_CANNED, POWER_TORN, PURCHASE_LOST};
 use crate::report::tell_of_report;
+use ending_words::tell_end;
 use exchange_words::{Terminal, tell_torn};
+use issuer_reasons::{Account, Charge, KnownAccounts, Reply, reply_of};
 use message_words::{CardSeen, tell_power};
+use purchase_reasons::kept::Cards;
+use purchase_reasons::{CardApp, ChangedLimits, charge_reply, keep_limits, tell_reasons};
 use report_lines::{EndFields, Ending, ReportLine, What, Whose, WordLines, bytes_of, read_line};
 use std::alloc::{AllocError, Global};
 
@@ -30,8 +34,13 @@ pub struct Narrator {
     alloc: Global,
     filter: Filter,
     terminals: Vec<Terminal>,
+    card_apps: Vec<CardApp>,
+    accounts: Vec<Account>,
     lanes: Vec<LanePast>,
     cards: Vec<CardSeen>,
+    changed: Vec<ChangedLimits>,
+    charges: Vec<Charge>,
+    is_unsure: bool,
 }
 
 /// The phrase of a line of a lane or of the audit that tells enough by itself.
@@ -70,23 +79,33 @@ fn fresh_lanes(alloc: Global) -> Result<Vec<LanePast>, AllocError>
 }
 
 impl Narrator {
-    /// A teller before the first line of a report, with what is known of the terminals.
+    /// A teller before the first line of a report, with what is known of the terminals, the cards
+    /// and the accounts.
     pub fn new(
         alloc: Global,
         filter: Filter,
         terminals: Vec<Terminal>,
+        card_apps: Vec<CardApp>,
+        accounts: Vec<Account>,
     ) -> Result<Narrator, AllocError>
         ensures state { IfOk result (λ n. seen_state n ≡ state.start) }
         ensures filter { IfOk result (λ n. n.filter ≡ filter) }
         ensures terminals { IfOk result (λ n. n.terminals.items ≡ terminals.items) }
+        ensures cards { IfOk result (λ n. n.card_apps.items ≡ card_apps.items) }
+        ensures accounts { IfOk result (λ n. n.accounts.items ≡ accounts.items) }
     {
         let lanes = fresh_lanes(alloc)?;
         Ok(Narrator {
             alloc,
             filter,
             terminals,
+            card_apps,
+            accounts,
             lanes,
             cards: Vec::new(alloc),
+            changed: Vec::new(alloc),
+            charges: Vec::new(alloc),
+            is_unsure: false,
         })
     }
 
@@ -149,6 +168,64 @@ impl Narrator {
         }
     }
 
+    /// Keeps that a request was sent to the issuer.
+    fn keep_request(&mut self, place: u8)
+        ensures state { seen_state self.new ≡ state.state_changed state.lane_requested (seen_state self.old) place }
+        ensures manner { state.manner_of self.new ≡ state.manner_of self.old }
+    {
+        match self.lanes.get_mut(usize::from(place)) {
+            Some(past) => past.note_request(),
+            None => {}
+        }
+    }
+
+    /// The issuer's reply, and what was known of the account before it.
+    fn reply_at(&self, place: u8, bytes: &[u8]) -> Option<Reply>
+        ensures { result ≡ state.reply_of_lane (state.manner_of self.now) (seen_state self.now) bytes.now (slice_get self.now.lanes.items place) }
+    {
+        let known = KnownAccounts {
+            accounts: self.accounts.as_slice(),
+            charges: self.charges.as_slice(),
+            is_unsure: self.is_unsure,
+        };
+        match self.lanes.get(usize::from(place)) {
+            Some(past) => reply_of(&known, past.followed.pan.as_slice(), past.talk.code, bytes),
+            None => None,
+        }
+    }
+
+    /// Keeps the issuer's reply.
+    fn keep_reply(&mut self, place: u8, reply: Option<Reply>)
+        ensures state { seen_state self.new ≡ state.state_changed (state.lane_with_reply reply) (seen_state self.old) place }
+        ensures manner { state.manner_of self.new ≡ state.manner_of self.old }
+    {
+        match self.lanes.get_mut(usize::from(place)) {
+            Some(past) => past.note_reply(reply),
+            None => {}
+        }
+    }
+
+    /// Takes what a lane's reply approved from its account.
+    fn charge_at(&mut self, place: u8) -> Result<(), AllocError>
+        ensures state { OnOk result (seen_state self.new ≡ state.with_charges (seen_state self.old) place) }
+        ensures manner { state.manner_of self.new ≡ state.manner_of self.old }
+    {
+        match self.lanes.get(usize::from(place)) {
+            Some(past) => charge_reply(&mut self.charges, &past.followed, &past.talk),
+            None => Ok(()),
+        }
+    }
+
+    /// Keeps the issuer's reply, and takes what it approved.
+    fn reply(&mut self, place: u8, bytes: &[u8]) -> Result<(), AllocError>
+        ensures state { OnOk result (seen_state self.new ≡ state.state_replied (state.manner_of self.old) bytes.now (seen_state self.old) place) }
+        ensures manner { state.manner_of self.new ≡ state.manner_of self.old }
+    {
+        let reply = self.reply_at(place, bytes);
+        self.keep_reply(place, reply);
+        self.charge_at(place)
+    }
+
     /// Tells a message to the issuer.
     fn tell_to_host(&self, place: u8, bytes: &[u8], out: &mut WordLines)
         ensures { Tells out.old out.new (spec.at_past (spec.to_host_words self.now.filter.brief bytes.now) (slice_get self.now.lanes.items place)) }
@@ -159,18 +236,31 @@ impl Narrator {
     }
 
     /// Tells a command, an answer, or a message of a lane or of the audit.
-    fn tell_bytes(&mut self, place: u8, what: &What<'_>, bytes: &[u8], out: &mut WordLines)
-        ensures words { Tells out.old out.new (spec.bytes_words (state.manner_of self.old) (seen_state self.old) place (seen_what what.now) bytes.now) }
-        ensures state { seen_state self.new ≡ state.left_of_bytes (state.manner_of self.old) (seen_what what.now) bytes.now (seen_state self.old) place }
+    fn tell_bytes(
+        &mut self,
+        place: u8,
+        what: &What<'_>,
+        bytes: &[u8],
+        out: &mut WordLines,
+    ) -> Result<(), AllocError>
+        ensures words { OnOk result (Tells out.old out.new (spec.bytes_words (state.manner_of self.old) (seen_state self.old) place (seen_what what.now) bytes.now)) }
+        ensures state { OnOk result (seen_state self.new ≡ state.left_of_bytes (state.manner_of self.old) (seen_what what.now) bytes.now (seen_state self.old) place) }
         ensures manner { state.manner_of self.new ≡ state.manner_of self.old }
     {
         match what {
             What::Sent(_) => self.tell_sent(place, bytes, out),
             What::Given(_) => self.tell_given(place, bytes, out),
-            What::ToHost(_) => self.tell_to_host(place, bytes, out),
-            What::FromHost(_) => self.tell_from_host(place, bytes, out),
+            What::ToHost(_) => {
+                self.tell_to_host(place, bytes, out);
+                self.keep_request(place);
+            }
+            What::FromHost(_) => {
+                self.tell_from_host(place, bytes, out);
+                return self.reply(place, bytes);
+            }
             _ => {}
         }
+        Ok(())
     }
 
     /// Tells a command, an answer or a message of a lane or of the audit, which stands in hexadecimal.
@@ -187,9 +277,8 @@ impl Narrator {
     {
         match bytes_of(self.alloc, text)? {
             Some(bytes) => self.tell_bytes(place, what, bytes.as_slice(), out),
-            None => {}
+            None => Ok(()),
         }
-        Ok(())
     }
 
     /// Tells that the power was cut, from what the lane's lines before it left.
@@ -216,6 +305,64 @@ impl Narrator {
         }
     }
 
+    /// What is known of the cards: beside the report, and by its lines.
+    fn cards_known(&self) -> Cards<'_>
+        ensures { cards_data result ≡ spec.cards_known (state.manner_of self.now) (seen_state self.now) }
+    {
+        Cards {
+            apps: self.card_apps.as_slice(),
+            changed: self.changed.as_slice(),
+            seen: self.cards.as_slice(),
+        }
+    }
+
+    /// What the lines of a lane left.
+    fn past_at(&self, place: u8) -> Option<&LanePast>
+        ensures { option_map (λ past. past.now) result ≡ slice_get self.now.lanes.items place }
+    {
+        self.lanes.get(usize::from(place))
+    }
+
+    /// Tells why a lane's purchase came out as it did.
+    fn tell_reasons_at(&self, place: u8, out: &mut WordLines)
+        ensures { Tells out.old out.new (spec.reasons_at (state.manner_of self.now) (seen_state self.now) (slice_get self.now.lanes.items place)) }
+    {
+        if let Some(past) = self.past_at(place) {
+            tell_reasons(out, &past.followed, &past.talk, &self.cards_known());
+        }
+    }
+
+    /// Tells why a purchase came out as it did, where that is asked for.
+    fn tell_why_at(&self, place: u8, out: &mut WordLines)
+        ensures { Tells out.old out.new (spec.why_at (state.manner_of self.now) (seen_state self.now) (slice_get self.now.lanes.items place)) }
+    {
+        if self.filter.why {
+            self.tell_reasons_at(place, out);
+        }
+    }
+
+    /// Keeps the limits that the scripts of a lane's purchase have set.
+    fn keep_limits_of(&mut self, place: u8) -> Result<(), AllocError>
+        ensures state { OnOk result (seen_state self.new ≡ state.with_limits_kept (seen_state self.old) place) }
+        ensures manner { state.manner_of self.new ≡ state.manner_of self.old }
+    {
+        match self.lanes.get(usize::from(place)) {
+            Some(past) => keep_limits(&mut self.changed, &past.followed, &past.talk),
+            None => Ok(()),
+        }
+    }
+
+    /// Keeps what the last command leaves that the card was pulled out in.
+    fn keep_torn(&mut self, place: u8)
+        ensures state { seen_state self.new ≡ state.state_changed state.lane_torn (seen_state self.old) place }
+        ensures manner { state.manner_of self.new ≡ state.manner_of self.old }
+    {
+        match self.lanes.get_mut(usize::from(place)) {
+            Some(past) => past.note_torn(),
+            None => {}
+        }
+    }
+
     /// Keeps the number of the purchase that ended.
     fn keep_end(&mut self, place: u8, number: u64)
         ensures state { seen_state self.new ≡ state.state_changed (state.lane_ended_purchase number) (seen_state self.old) place }
@@ -227,28 +374,39 @@ impl Narrator {
         }
     }
 
+    /// Keeps the number of the purchase that ended, and the limits that its scripts have set.
+    fn keep_ended(&mut self, place: u8, number: u64) -> Result<(), AllocError>
+        ensures state { OnOk result (seen_state self.new ≡ state.state_ended number (seen_state self.old) place) }
+        ensures manner { state.manner_of self.new ≡ state.manner_of self.old }
+    {
+        self.keep_end(place, number);
+        self.keep_limits_of(place)
+    }
+
     /// Forgets what the lane's last card gave.
-    fn begin(&mut self, place: u8)
-        ensures state { seen_state self.new ≡ state.state_changed state.lane_begun (seen_state self.old) place }
+    fn begin(&mut self, place: u8, card: &[u8])
+        ensures state { seen_state self.new ≡ state.state_changed (state.lane_begun card.now) (seen_state self.old) place }
         ensures manner { state.manner_of self.new ≡ state.manner_of self.old }
     {
         match self.lanes.get_mut(usize::from(place)) {
-            Some(past) => past.begin(),
+            Some(past) => past.begin(card),
             None => {}
         }
     }
 
     /// Keeps what a line that tells enough by itself leaves: a card that is powered up leaves nothing of the
-    /// last one, and a lost purchase its number.
-    fn keep(&mut self, place: u8, what: &What<'_>)
-        ensures state { seen_state self.new ≡ state.kept_alone (seen_what what.now) (seen_state self.old) place }
+    /// last one, and a lost purchase its number and its limits.
+    fn keep(&mut self, place: u8, what: &What<'_>) -> Result<(), AllocError>
+        ensures state { OnOk result (seen_state self.new ≡ state.kept_alone (seen_what what.now) (seen_state self.old) place) }
         ensures manner { state.manner_of self.new ≡ state.manner_of self.old }
     {
         match what {
-            What::PowerTorn(_) | What::PowerCanned(_) => self.begin(place),
-            What::Lost(number) => self.keep_end(place, *number),
+            What::PowerTorn(card) | What::PowerCanned(card) => self.begin(place, card),
+            What::Lost(number) => return self.keep_ended(place, *number),
+            What::NoReply => self.is_unsure = true,
             _ => {}
         }
+        Ok(())
     }
 
     /// Tells the counters of a card that is powered up, and keeps them.
@@ -263,7 +421,7 @@ impl Narrator {
         ensures state { OnOk result (seen_state self.new ≡ state.state_powered card.now apps.now (seen_state self.old) place) }
         ensures manner { state.manner_of self.new ≡ state.manner_of self.old }
     {
-        self.begin(place);
+        self.begin(place, card);
         tell_power(out, &mut self.cards, card, apps)
     }
 
@@ -281,6 +439,7 @@ impl Narrator {
             What::FromHost(text) => self.tell_exchange(place, what, text, out),
             What::Torn => {
                 self.tell_torn_at(place, out);
+                self.keep_torn(place);
                 Ok(())
             }
             What::End {
@@ -289,13 +448,12 @@ impl Narrator {
                 fields,
             } => {
                 self.tell_end_at(place, ending, fields, out);
-                self.keep_end(place, *number);
-                Ok(())
+                self.tell_why_at(place, out);
+                self.keep_ended(place, *number)
             }
             other => {
-                self.keep(place, other);
                 tell_alone(out, other);
-                Ok(())
+                self.keep(place, other)
             }
         }
     }
@@ -329,7 +487,10 @@ impl Narrator {
         ensures manner { state.manner_of self.new ≡ state.manner_of self.old }
     {
         match bytes_of(self.alloc, text)? {
-            Some(bytes) => self.settle(place, bytes.as_slice(), out),
+            Some(bytes) => {
+                self.settle(place, bytes.as_slice(), out);
+                self.is_unsure = true;
+            }
             None => {}
         }
         Ok(())

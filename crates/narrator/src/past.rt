@@ -5,7 +5,9 @@ ghost use Rattle.narrator.specs.Words as spec;
 ghost use Rattle.report_lines.specs.Pieces.{Tells};
 
 use exchange_words::{LaneState, Terminal, first_fields, row_for, tell_answer, tell_command};
+use issuer_reasons::Reply;
 use message_words::{Settled, code_in, settled_by, tell_call, tell_reply};
+use purchase_reasons::Followed;
 use report_lines::WordLines;
 use std::mem;
 
@@ -14,6 +16,8 @@ use std::mem;
 pub struct LanePast {
     /// What commands and answers left since the lane's card was powered up.
     pub talk: LaneState,
+    /// What is followed of the purchase for its reasons.
+    pub followed: Followed,
     /// The last message of the settlement.
     pub settled: Settled,
     /// The number of the last purchase that ended.
@@ -27,16 +31,39 @@ impl LanePast {
     {
         LanePast {
             talk: LaneState::new(),
+            followed: Followed::new(),
             settled: Settled::Nothing,
             last_end: 0,
         }
     }
 
-    /// Forgets what the last card gave and was sent, as one is powered up.
-    pub fn begin(&mut self)
-        ensures { self.new ≡ state.lane_begun self.old }
+    /// Forgets what the last card gave and was sent, as the one of this name is powered up.
+    pub fn begin(&mut self, card: &[u8])
+        ensures { self.new ≡ state.lane_begun card.now self.old }
     {
         self.talk.begin();
+        self.followed.begin(card);
+    }
+
+    /// Keeps that a request was sent to the issuer.
+    pub fn note_request(&mut self)
+        ensures { self.new ≡ state.lane_requested self.old }
+    {
+        self.followed.note_request();
+    }
+
+    /// Keeps the issuer's reply to it.
+    pub fn note_reply(&mut self, reply: Option<Reply>)
+        ensures { self.new ≡ state.lane_with_reply reply self.old }
+    {
+        self.followed.note_reply(reply);
+    }
+
+    /// Keeps what the last command leaves that the card was pulled out in.
+    pub fn note_torn(&mut self)
+        ensures { self.new ≡ state.lane_torn self.old }
+    {
+        self.followed.note_torn(self.talk.command.as_slice());
     }
 
     /// Tells a command. `place` is the lane's place, by which the rows of its terminal are found.
@@ -53,6 +80,7 @@ impl LanePast {
     {
         let row = row_for(terminals, place, self.talk.name.as_slice());
         tell_command(out, &mut self.talk, bytes, row, brief);
+        self.followed.note_question(&self.talk);
     }
 
     /// Tells an answer to the last command, which waits for none any longer.
@@ -62,6 +90,8 @@ impl LanePast {
     {
         let command = mem::take(&mut self.talk.command);
         tell_answer(out, &mut self.talk, command.as_slice(), bytes, brief);
+        self.followed.note_question(&self.talk);
+        self.followed.note_answer(command.as_slice(), bytes);
     }
 
     /// Tells a message to the issuer.

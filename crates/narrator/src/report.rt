@@ -1,15 +1,14 @@
 //! Lines of no lane and no card in words.
 ghost use Rattle.std.specs.Prelude.{◌≡◌, OnOk, option_map};
 ghost use Rattle.narrator.specs.Words as spec;
-ghost use Rattle.narrator.specs.Endings as endings;
+ghost use Rattle.ending_words.specs.Endings as endings;
 ghost use Rattle.report_lines.specs.Bytes.{bytes_told};
 ghost use Rattle.report_lines.specs.Reading.{seen_what};
 ghost use Rattle.report_lines.specs.Pieces.{Tells};
 
-use crate::digits::hex_number;
-use crate::ending::tell_break;
 use crate::phrases::{OR_MISSING, TRACE_DIFFERS};
 use ber_tlv::Tag;
+use ending_words::{hex_number, tell_break};
 use object_words::{Object, Style, tell_object};
 use report_lines::{What, WordLines, bytes_of};
 use std::alloc::{AllocError, Global};

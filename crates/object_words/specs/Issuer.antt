@@ -33,6 +33,7 @@ update_words update =
 unfoldable pub response_word : ℕ → Option (List ℕ)
 response_word code = word_in (map (λ w. (w.0, w.1.now)) RESPONSES) code
 
+-- an authorisation response code in words
 abbrev pub response_words : ℕ → List Piece
 response_words code = word_or (text (codes "not known")) (response_word code)
 

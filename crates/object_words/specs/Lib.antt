@@ -5,3 +5,4 @@ pub mod Issuer
 pub mod Leading
 pub mod Objects
 pub mod Results
+pub mod Tracks

@@ -7,7 +7,7 @@ use Rattle.ber_tlv.specs.Left.{items_of, fault_of}
 use Rattle.ber_tlv.specs.Tag.{names_template}
 use Rattle.ber_tlv.specs.Written.{tag_bytes}
 use Rattle.value_words.specs.Words.{tag_name_in}
-use Rattle.value_words.specs.declared.bits.TheConstants.{CAPABILITY_BITS, INTERCHANGE_BITS, STATUS_BITS, USAGE_BITS}
+use Rattle.value_words.specs.declared.bits.TheConstants.{ADDITIONAL_BITS, CAPABILITY_BITS, INTERCHANGE_BITS, STATUS_BITS, USAGE_BITS}
 use Rattle.value_words.specs.declared.codes.TheConstants.{TERMINAL_TYPES, TRADES}
 use Rattle.value_words.specs.declared.names.Form.{Form}
 use Rattle.value_words.specs.declared.names.Form.TheVariants as form
@@ -20,6 +20,7 @@ use Rattle.object_words.specs.Leading.{leading_items}
 use Rattle.value_words.specs.Lists.{list_words, locator_words, methods_words, method_result_words}
 use Rattle.value_words.specs.Plain.{binary_number, hex_words, told_if, text_words, number_words, amount_words, three_digits_words, date_words, time_words, log_entry_words, priority_words}
 use Rattle.object_words.specs.Results.{result_lines}
+use Rattle.object_words.specs.Tracks.{track_words}
 use Rattle.object_words.specs.declared.style.ResultsStyle.{ResultsStyle}
 use Rattle.object_words.specs.declared.style.ResultsStyle.TheVariants.{Lines, OneLine, Codes}
 use Rattle.object_words.specs.declared.style.Style.{Style}
@@ -46,6 +47,7 @@ abbrev pub table_words : Form → Style → List ℕ → Option (List Piece)
 table_words form.Interchange style value = table_flags_words (map (λ w. (w.0, w.1.now)) INTERCHANGE_BITS) 2 value
 table_words form.Usage style value = table_flags_words (map (λ w. (w.0, w.1.now)) USAGE_BITS) 2 value
 table_words form.Capabilities style value = table_flags_words (map (λ w. (w.0, w.1.now)) CAPABILITY_BITS) 3 value
+table_words form.Additional style value = table_flags_words (map (λ w. (w.0, w.1.now)) ADDITIONAL_BITS) 5 value
 table_words form.Status style value = table_flags_words (map (λ w. (w.0, w.1.now)) STATUS_BITS) 2 value
 table_words form.Results style value = verification_words style value
 table_words form.TerminalType style value = coded_words (map (λ w. (w.0, w.1.now)) TERMINAL_TYPES) value
@@ -64,6 +66,7 @@ parts_words form.MethodResult style value = method_result_words value
 parts_words form.Command style value = Some (command_words value)
 parts_words form.LogEntry style value = log_entry_words value
 parts_words form.Priority style value = priority_words value
+parts_words form.Track style value = track_words value
 parts_words other style value = table_words other style value
 
 abbrev pub form_words : Form → Style → List ℕ → Option (List Piece)
@@ -95,10 +98,10 @@ name_of tag = tag_name_in (map (λ n. (n.0, n.1.now, n.2)) NAMES) tag
 unfoldable pub object_words : Style → ℕ → List ℕ → List Piece
 object_words style tag value = line style.level ++ hex (tag_bytes tag) ++ named_value (name_of tag) style value
 
--- a constructed object whose line stands before the objects that it holds: one without a name, or an application template or
--- a script
+-- a constructed object whose line stands before the objects that it holds: one without a name, or an application template, a
+-- script or a directory discretionary template
 abbrev pub has_line : ℕ → Bool
-has_line tag = tag == 0x61 || tag == 0x71 || tag == 0x72
+has_line tag = tag == 0x61 || tag == 0x71 || tag == 0x72 || tag == 0x73
 
 abbrev pub unnamed_line : ℕ → ℕ → List Piece
 unnamed_line level tag = line level ++ hex (tag_bytes tag) ++ text (codes " template")
@@ -134,3 +137,7 @@ objects_words (suc more) style bytes = flat_map (item_words style (objects_words
 abbrev pub told_item : ℕ → Style → ItemData → List Piece
 told_item zero style item = plain_item style item
 told_item (suc more) style item = item_words style (objects_words more) item
+
+-- an object that stands alone, with what it holds, so many objects deep at most
+abbrev pub lone_words : ℕ → Style → ℕ → List ℕ → List Piece
+lone_words more style tag value = told_item more style (record { tag = tag; value = value; start = 0 })

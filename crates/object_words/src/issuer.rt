@@ -197,8 +197,8 @@ fn response_word(code: u32) -> Option<&'static [u8]>
     word_of(&RESPONSES, code)
 }
 
-/// Tells the words of a response code.
-fn tell_response_words(out: &mut WordLines, code: u32)
+/// Tells the words of a response code, which is the number of its two characters.
+pub fn tell_response_words(out: &mut WordLines, code: u32)
     ensures { Tells out.old out.new (spec.response_words code) }
 {
     match response_word(code) {

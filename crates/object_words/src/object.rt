@@ -13,13 +13,14 @@ use crate::command::tell_command;
 use crate::issuer::{tell_authentication, tell_information, tell_issuer_data, tell_response};
 use crate::results::tell_result_lines;
 use crate::style::{ResultsStyle, Style};
+use crate::track::tell_track;
 use ber_tlv::{Cursor, Item, Tag, first_fault, is_constructed, tag_bytes};
 use report_lines::WordLines;
 use value_words::{
-    CAPABILITY_BITS, Form, INTERCHANGE_BITS, STATUS_BITS, TERMINAL_TYPES, TRADES, USAGE_BITS,
-    name_of, number_in, tell_amount, tell_code, tell_date, tell_digits, tell_hex, tell_list,
-    tell_locator, tell_log_entry, tell_method_result, tell_methods, tell_number, tell_priority,
-    tell_text, tell_time,
+    ADDITIONAL_BITS, CAPABILITY_BITS, Form, INTERCHANGE_BITS, STATUS_BITS, TERMINAL_TYPES, TRADES,
+    USAGE_BITS, name_of, number_in, tell_amount, tell_code, tell_date, tell_digits, tell_hex,
+    tell_list, tell_locator, tell_log_entry, tell_method_result, tell_methods, tell_number,
+    tell_priority, tell_text, tell_time,
 };
 
 /// A data object: its tag and its value.
@@ -73,6 +74,7 @@ fn tell_by_table(out: &mut WordLines, form: Form, value: &[u8], style: &Style) -
         Form::Interchange => tell_flags(out, &INTERCHANGE_BITS, 2, value),
         Form::Usage => tell_flags(out, &USAGE_BITS, 2, value),
         Form::Capabilities => tell_flags(out, &CAPABILITY_BITS, 3, value),
+        Form::Additional => tell_flags(out, &ADDITIONAL_BITS, 5, value),
         Form::Status => tell_flags(out, &STATUS_BITS, 2, value),
         Form::Results => tell_verification(out, value, style),
         Form::TerminalType => tell_coded(out, &TERMINAL_TYPES, value),
@@ -98,6 +100,7 @@ fn tell_by_parts(out: &mut WordLines, form: Form, value: &[u8], style: &Style) -
         Form::Command => tell_command(out, value),
         Form::LogEntry => tell_log_entry(out, value),
         Form::Priority => tell_priority(out, value),
+        Form::Track => tell_track(out, value),
         _ => tell_by_table(out, form, value, style),
     }
 }
@@ -179,7 +182,7 @@ pub fn tell_object(out: &mut WordLines, object: &Object<'_>, style: &Style)
 fn has_line(tag: Tag) -> bool
     ensures { result ≡ spec.has_line tag.0 }
 {
-    tag.0 == 0x61 || tag.0 == 0x71 || tag.0 == 0x72
+    tag.0 == 0x61 || tag.0 == 0x71 || tag.0 == 0x72 || tag.0 == 0x73
 }
 
 /// Tells the line of a constructed object without a name.
@@ -270,4 +273,23 @@ fn tell_item(out: &mut WordLines, item: &Item<'_>, style: &Style)
         value: item.value,
     };
     tell_object(out, &object, style);
+}
+
+/// Tells an object that stands alone. What it holds is told behind it, `more` objects deep at most, as
+/// `tell_objects` tells it.
+pub fn tell_lone_object(out: &mut WordLines, object: &Object<'_>, style: &Style, more: u8)
+    ensures { Tells out.old out.new (spec.lone_words more style.now object.now.tag.0 object.now.value.now) }
+{
+    let item = Item {
+        tag: object.tag,
+        value: object.value,
+        start: 0,
+    };
+    if more > 0 && is_opened(style.level, &item) {
+        let mut inner = *style;
+        inner.level = tell_template(out, named(item.tag), item.tag, style.level);
+        tell_objects(out, item.value, &inner, more - 1);
+    } else {
+        tell_item(out, &item, style);
+    }
 }

@@ -27,13 +27,13 @@ told_if holds words = (if holds then Some words else None)
 abbrev pub all_digits : List ℕ → Bool
 all_digits value = list_all bcd.has_digits value
 
--- a character that is printed
-abbrev pub is_printable : ℕ → Bool
-is_printable byte = nat_le 32 byte && nat_le byte 126
+-- a character that is told as it is
+abbrev pub is_told_as_is : ℕ → Bool
+is_told_as_is byte = nat_le 32 byte && nat_le byte 126
 
 -- printable characters
 abbrev pub text_words : List ℕ → Option (List Piece)
-text_words value = told_if (not (length value == 0) && list_all is_printable value) (text value)
+text_words value = told_if (not (length value == 0) && list_all is_told_as_is value) (text value)
 
 -- a number of one to four bytes
 abbrev pub number_words : List ℕ → Option (List Piece)

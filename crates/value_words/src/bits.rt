@@ -104,6 +104,37 @@ pub const CAPABILITY_BITS: [(u32, &[u8]); 12] = [
     (34, b"CDA"),
 ];
 
+/// Additional terminal capabilities (EMV 4.3 Book 4 Annex A3).
+pub const ADDITIONAL_BITS: [(u32, &[u8]); 27] = [
+    (18, b"cash"),
+    (17, b"goods"),
+    (16, b"services"),
+    (15, b"cashback"),
+    (14, b"inquiry"),
+    (13, b"transfer"),
+    (12, b"payment"),
+    (11, b"administrative"),
+    (28, b"cash deposit"),
+    (38, b"numeric keys"),
+    (37, b"alphabetic and special characters keys"),
+    (36, b"command keys"),
+    (35, b"function keys"),
+    (48, b"print (attendant)"),
+    (47, b"print (cardholder)"),
+    (46, b"display (attendant)"),
+    (45, b"display (cardholder)"),
+    (42, b"code table 10"),
+    (41, b"code table 9"),
+    (58, b"code table 8"),
+    (57, b"code table 7"),
+    (56, b"code table 6"),
+    (55, b"code table 5"),
+    (54, b"code table 4"),
+    (53, b"code table 3"),
+    (52, b"code table 2"),
+    (51, b"code table 1"),
+];
+
 /// Card status update of issuer authentication data (EMV 4.3 Book 3 Annex C8).
 pub const UPDATE_BITS: [(u32, &[u8]); 5] = [
     (18, b"approved"),

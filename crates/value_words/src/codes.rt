@@ -77,7 +77,8 @@ pub const RESPONSES: [(u32, &[u8]); 10] = [
 ];
 
 /// Status words (ISO/IEC 7816-4 section 5.1.3).
-pub const STATUSES: [(u32, &[u8]); 15] = [
+pub const STATUSES: [(u32, &[u8]); 17] = [
+    (0x6200, b"a warning without more information"),
     (0x6283, b"the application is blocked"),
     (0x6300, b"authentication failed"),
     (0x6700, b"wrong length"),
@@ -92,6 +93,7 @@ pub const STATUSES: [(u32, &[u8]); 15] = [
     (0x6a88, b"no such data"),
     (0x6d00, b"instruction not supported"),
     (0x6e00, b"class not supported"),
+    (0x6f00, b"no precise diagnosis"),
     (0x9000, b"carried out"),
 ];
 

@@ -42,7 +42,7 @@ pub fn all_digits(value: &[u8]) -> bool
 
 /// Whether each byte is a printable character.
 fn are_printable(value: &[u8]) -> bool
-    ensures { result ≡ list_all spec.is_printable value.now }
+    ensures { result ≡ list_all spec.is_told_as_is value.now }
 {
     value.iter().all(|byte| 32 <= *byte && *byte <= 126)
 }

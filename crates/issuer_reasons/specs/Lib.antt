@@ -1,0 +1,3 @@
+pub mod Accounts
+pub mod Issuers
+pub mod Wanted

@@ -1,6 +1,0 @@
-use Rattle.narrator.specs.Endings.{cause_word}
-use Rattle.narrator.proofs.ending.cause_word.Goals as goal
-
-pub returns : goal.returns
-unfolding cause_word
-returns c = c.word_of_text.ensures

@@ -1,0 +1,4 @@
+use Rattle.purchase_reasons.proofs.terminal.tell_first_asked.Goals as goal
+
+pub returns-in-None : goal.returns-in-None
+returns-in-None c = rw c.in-None.is c.text.ensures.told

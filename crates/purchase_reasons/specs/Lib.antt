@@ -1,0 +1,5 @@
+pub mod Approval
+pub mod Cards
+pub mod Followed
+pub mod Kept
+pub mod Reasons
