@@ -77,13 +77,21 @@ def named(message):
     return [n for n in range(1, 65) if bits >> (64 - n) & 1]
 
 
+def number_of(digits):
+    """The number that these digits of a message write; none where they aren't all digits."""
+    return int(digits) if digits.isdigit() else None
+
+
 def split_55(message):
     """What stands before field 55, and what it holds; None where it doesn't end the message, or is too long for the dissector."""
     place = 12
     for number in named(message)[:-1]:
-        place += LENGTHS[number] if number != 2 else 2 + int(message[place:place + 2])
+        size = LENGTHS.get(number) if number != 2 else number_of(message[place:place + 2])
+        if size is None:
+            return None
+        place += size if number != 2 else 2 + size
     held = message[place + 4:]
-    return (message[:place], held) if len(held) == int(message[place:place + 4]) and len(held) < 1000 else None
+    return (message[:place], held) if len(held) == number_of(message[place:place + 4]) and len(held) < 1000 else None
 
 
 def as_dissected(front, held):

@@ -100,10 +100,11 @@ def without(table, keys):
     return {key: value for key, value in table.items() if key not in keys}
 
 
-def terminal_document(scenario, lane, purchase, keep=()):
-    """The document of a lane's terminal with one of its purchases, counted from 0 and from 1. Of the keys of a lane that a
-    terminal doesn't need it has those that are to be kept."""
+def terminal_document(scenario, lane, purchase=None, keep=()):
+    """The document of a lane's terminal with one of its purchases, counted from 0 and from 1, or with all of them. Of the keys of
+    a lane that a terminal doesn't need it has those that are to be kept."""
     terminal, issuer = scenario["lane"][lane], scenario.get("issuer")
-    one = without(terminal["purchase"][purchase - 1], NOT_OF_A_DIALOGUE)
+    chosen = terminal["purchase"] if purchase is None else [terminal["purchase"][purchase - 1]]
+    purchases = [without(one, NOT_OF_A_DIALOGUE) for one in chosen]
     key = {"pin_key": issuer["pin_key"]} if isinstance(issuer, dict) and "pin_key" in issuer else {}
-    return document({**key, "lane": {**without(terminal, set(NOT_OF_A_TERMINAL) - set(keep)), "purchase": [one]}})
+    return document({**key, "lane": {**without(terminal, set(NOT_OF_A_TERMINAL) - set(keep)), "purchase": purchases}})

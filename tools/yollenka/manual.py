@@ -63,7 +63,7 @@ SECTIONS = [
         ("docs/use/scenario.md", "Every key of a scenario; docs/use/scenario.schema.json is the same for editors."),
         ("docs/use/trace.md", "The document that `check` reads; docs/use/trace.schema.json is the same for editors."),
         ("docs/use/report.md", "Every line of a report."),
-        ("docs/use/questions.md", "Five questions, each answered by one command."),
+        ("docs/use/questions.md", "Questions, each answered by one command."),
         ("examples/README.md", "The examples by what one wants to see."),
     ]),
     ("EXAMPLES", [

@@ -5,6 +5,7 @@ repository with second names of the files of those crates and of what was made o
 back to the crate, also from the room of a call that was killed, and so the next call goes on where this one ended.
 """
 import os
+import re
 import shutil
 import signal
 import subprocess
@@ -25,7 +26,9 @@ LEFT = ("rlib", "incremental")
 LEAST, BELOW, OWN = 1_400_000_000, 80_000, 350_000
 # A proof by several processors takes this share more memory for each further one, and doesn't gain by more than so many.
 FURTHER, MOST_JOBS = 0.6, 4
-# Lines that are proved in a second of one processor, roughly.
+# Where a gate's seconds of the processor stand for the proof of each crate, a row for each.
+COUNTED, ROW = Path(seals.ROOT) / "docs" / "inside" / "gate.md", re.compile(r"^\| `(\w+)` \| (\d+) \|", re.MULTILINE)
+# Lines of a crate without a row that are proved in a second of one processor, roughly.
 PACE = 9
 # Seconds after which it is looked again whether there is room.
 LOOK = 20
@@ -41,6 +44,11 @@ def lines_in(crate):
     """How many lines of code a crate has."""
     files = [path for path in (CRATES / crate / "src").glob("**/*.rt")]
     return sum(path.read_bytes().count(b"\n") for path in files)
+
+
+def seconds_counted():
+    """Seconds of one processor for the proof of each crate that a gate has counted."""
+    return {crate: int(seconds) for crate, seconds in ROW.findall(seals.text_of(COUNTED))}
 
 
 def free_memory():
@@ -117,10 +125,12 @@ class Plan:
         self.crates = [crate for crate in crates_of(name) if crate != name]
         self.below = {crate: [one for one in crates_of(crate) if one != crate] for crate in self.crates}
         self.lines = {crate: lines_in(crate) for crate in self.crates}
+        counted = seconds_counted()
+        self.seconds = {crate: counted.get(crate, self.lines[crate] / PACE) for crate in self.crates}
         self.row = {}
         for crate in reversed(self.crates):
             above = [self.row[one] for one in self.crates if crate in listed[one]]
-            self.row[crate] = self.lines[crate] + max(above, default=0)
+            self.row[crate] = self.seconds[crate] + max(above, default=0)
 
     def memory(self, crate):
         """The bytes that the proof of a crate takes, roughly."""
@@ -149,8 +159,8 @@ class Prover:
     def jobs_for(self, crate, ready):
         """How many processors a crate's proof gets where so many wait, itself among them: 0 where one or memory is wanting.
 
-        It gets what no other crate waits for, as far as memory is free, and a second one where those that wait for it take longer
-        than an even share of all that is left; one crate may always run.
+        It gets what no other crate waits for, as far as memory is free, or the share that it and the row of those that wait for it
+        have of all that is left, where that is more; one crate may always run.
         """
         idle = len(os.sched_getaffinity(0)) - sum(self.jobs[one] for one in self.running.values())
         still = sum(max(0, self.needed(one) - taken_memory(self.sessions.get(one, -1))) for one in self.running.values())
@@ -158,13 +168,12 @@ class Prover:
         needs = self.plan.memory(crate)
         if self.running and (idle < 1 or room < needs):
             return 0
-        wished = max(idle // ready, min(idle, 2) if self.is_last_to_end(crate) else 1)
-        return max(1, min(MOST_JOBS, wished, 1 + int((room / needs - 1) / FURTHER)))
+        return max(1, min(MOST_JOBS, max(idle // ready, self.share(crate)), 1 + int((room / needs - 1) / FURTHER)))
 
-    def is_last_to_end(self, crate):
-        """Whether a crate and the row of those that wait for it take longer than an even share of all that is left."""
-        left = sum(self.plan.lines[one] for one in [*self.todo, *self.running.values()])
-        return self.plan.row[crate] * len(os.sched_getaffinity(0)) > left
+    def share(self, crate):
+        """The processors that a crate would have if each row of crates that wait for one another got them by its length."""
+        left = sum(self.plan.seconds[one] for one in [*self.todo, *self.running.values()])
+        return round(self.plan.row[crate] * len(os.sched_getaffinity(0)) / max(1, left))
 
     def prove(self, crate):
         """Proves a crate in a room of its own; gives the status and what the toolchain wrote."""
@@ -201,10 +210,10 @@ class Prover:
         """A line of what runs, what is left, and how long that may take."""
         left = self.todo + list(self.running.values())
         longest = max((self.plan.row[crate] for crate in left), default=0)
-        share = sum(self.plan.lines[crate] for crate in left) / max(1, len(self.running))
+        share = sum(self.plan.seconds[crate] for crate in left) / max(1, len(self.running))
         at_work = " ".join(f"{crate}*{self.jobs[crate]}" if self.jobs[crate] > 1 else crate for crate in self.running.values())
         self.builder.tell(f"{minutes(self.start)}: {at_work}; {len(self.todo)} wait, "
-                          f"{len(self.done)} done; about {max(longest, share) / PACE / 60:.0f} min left")
+                          f"{len(self.done)} done; about {max(longest, share) / 60:.0f} min left")
 
     def end(self, future):
         """Notes a crate that has ended; where its proof failed, all is stopped and the end of what was written is shown."""

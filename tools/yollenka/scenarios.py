@@ -21,8 +21,16 @@ def read_document(path):
         return tomllib.loads(Path(path).read_bytes().decode("utf-8-sig"))
     except OSError as error:
         raise NoDocument(f"{path}: {error.strerror}") from None
+    except UnicodeDecodeError as error:
+        raise NoDocument(f"{path} is no document of TOML 1.0: {no_text(error)}") from None
     except (ValueError, RecursionError) as error:
         raise NoDocument(f"{path} is no document of TOML 1.0: {error}") from None
+
+
+def no_text(error):
+    """Where bytes stop to be a text, in words."""
+    line = error.object[: error.start].count(b"\n") + 1
+    return f"line {line}: byte {error.object[error.start]:02x} is no UTF-8"
 
 
 def toml(value):
@@ -44,8 +52,11 @@ def pair(key, value):
 
 
 def document(scenario):
-    """A scenario as a TOML document, a line for each of its keys."""
-    return "".join(pair(*one) + "\n" for one in scenario.items()).encode()
+    """A scenario as a TOML document, a line for each of its keys. Raises NoDocument where its tables go in too deep."""
+    try:
+        return "".join(pair(*one) + "\n" for one in scenario.items()).encode()
+    except RecursionError:
+        raise NoDocument("the document's arrays or tables are nested too deep") from None
 
 
 def in_tables(table, path=""):

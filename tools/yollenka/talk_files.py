@@ -140,12 +140,20 @@ def lines_of(session, constants):
 
 
 def session(name, comment, variant, lines, constants):
-    """The talk of a session: a power-up first."""
+    """The talk of a session: a power-up first, behind each cryptogram why it is of its kind, and at the end what was decided.
+
+    The commands and their answers are the table's; these and the power-up's numbers are those of the model in Python.
+    """
     texts = [constants[f"RECORD_{number}"] for number in (1, 2, 3)]
     text = titled(comment or variant_texts()[variant], in_tables(card(variant, texts)))
-    turns = [Turn("power", CardAtLines(cards_of(text)[0]).answer("power"), 0)]
-    turns += [Turn(f"> {said}", f"< {answer}", 0) for said, answer in (line.split(" ") for line in lines if line[0] != " ")]
-    return Talk(name, text, turns)
+    at_lines = CardAtLines(cards_of(text)[0])
+    turns = [Turn("power", at_lines.answer("power"), 0)]
+    for said, answer in (line.split(" ") for line in lines if line[0] != " "):
+        at_lines.answer(said)
+        turns.append(Turn(f"> {said}", f"< {answer}", 0))
+        if said.startswith("80ae") and answer.endswith("9000"):
+            turns.append(Turn("why", at_lines.answer("why"), 0))
+    return Talk(name, text, [*turns, Turn("decided", at_lines.answer("decided"), 0)])
 
 
 def card_talks():

@@ -9,8 +9,12 @@
     because approved 2500
     balance 4761739001010010 500
     power 10,9,0,0,3,0
+    why ac first app 0 asked tc made tc ..
+    decided 2
+    app 0 started 11
+    app 0 first tc one 2500
 
-Of the last three the answers alone stand there: they begin with what asks for them.
+Of the last five the answers alone stand there: they begin with what asks for them.
 """
 from dataclasses import dataclass
 from pathlib import Path
@@ -51,11 +55,17 @@ def is_answered_below(line):
 def asked(line):
     """What asks for an answer that stands alone, or None."""
     word, *rest = line.split(" ")
-    if word in ("because", "power") and rest or word == "off" and not rest:
+    if word in ("because", "power", "why", "decided") and rest or word == "off" and not rest:
         return word
     if word == "balance" and len(rest) == 2:
         return f"balance {rest[0]}"
     return line if word == "pull" else None
+
+
+def further(line, left):
+    """The lines that stand behind the first one of an answer: as many as `decided N` says."""
+    word, _, count = line.partition(" ")
+    return [one for _, (_, one) in zip(range(int(count)), left)] if word == "decided" and count.isdigit() else []
 
 
 def written(turn):
@@ -77,9 +87,9 @@ def turns_in(lines, first, where):
                 raise Fault(f"{where}: line {number + 1}: the answer to line {number} should stand here, as `< H`")
             yield Turn(line, answer, number)
         elif said := asked(line):
-            yield Turn(said, line, number)
+            yield Turn(said, "\n".join([line, *further(line, left)]), number)
         else:
-            raise Fault(f"{where}: line {number}: {line[:60]!r} is none of `> H`, `iso > H`, `because ..`, `balance PAN N`, `power ..`")
+            raise Fault(f"{where}: line {number}: {line[:60]!r} is none of `> H`, `iso > H`, `because ..`, `balance PAN N`, `power ..`, `why ..`, `decided N`")
 
 
 def read_talk(path):

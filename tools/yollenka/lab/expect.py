@@ -32,7 +32,7 @@ COUNTERS = ("transaction counter", "last online", "offline approvals", "sum", "P
 def answer_beside(scenario):
     """What the program is to print, or None."""
     found = next((path for path in (scenario.with_suffix(".report"), scenario.with_suffix(".line")) if path.exists()), None)
-    return found.read_text() if found else None
+    return found.read_text(errors="replace") if found else None
 
 
 def hex_field(old, new):
@@ -77,11 +77,15 @@ def explained(report, number):
     found = kept("explain")
     if found is None or number >= len(report):
         return []
-    said = subprocess.run([found[0]], input="\n".join([*report, ""]), capture_output=True, text=True).stdout.splitlines()
+    said = subprocess.run([found[0]], input="\n".join([*report, ""]), capture_output=True, text=True, errors="replace").stdout.splitlines()
     at = 0
-    for line in report[:number]:
-        at = said.index(line, at) + 1
-    begin = said.index(report[number], at) + 1
+    try:
+        for line in report[:number]:
+            at = said.index(line, at) + 1
+        begin = said.index(report[number], at) + 1
+    except ValueError:
+        # What stands beside the scenario is no report, and its lines come out otherwise.
+        return []
     end = next((i for i in range(begin, len(said)) if not said[i].startswith("  ")), len(said))
     return said[begin:end]
 

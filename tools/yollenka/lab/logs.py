@@ -221,7 +221,7 @@ def entries(lines):
             held = entry_event(line, number)
         elif was_whole and re.fullmatch(r"[0-9A-Fa-f ]+", line):
             is_whole = True
-        elif held and held.value and re.fullmatch(r"[0-9A-Fa-f ]+", line):
+        elif held and held.value and isinstance(held.value, bytes) and re.fullmatch(r"[0-9A-Fa-f ]+", line):
             held = replace(held, value=held.value + hexadecimal(line, number))
         elif line and not line.startswith("#") and held:
             raise Fault(f"line {number}: this is no entry: {line[:60]!r}")

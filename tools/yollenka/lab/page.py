@@ -3,7 +3,7 @@ import re
 import sys
 from pathlib import Path
 
-from yollenka.explaining import terminal_words
+from yollenka.explaining import words_handed_on
 from yollenka.faults import Fault
 from yollenka.lab import PASSED
 from yollenka.lab.judge import results_of, text_of, told_facts
@@ -31,8 +31,8 @@ def judged(options, text):
 
 
 def codes_of(path, results):
-    """The words that hand the terminals' codes on to `explain`: a scenario's, or else those of the first purchase's lane."""
-    return terminal_words(Path(path).read_bytes()) or (list(rows_of(results[0].verdict.lane)) if results else [])
+    """The words that hand what is known of terminals and cards on to `explain`: a scenario's, or else those of the first purchase's lane."""
+    return words_handed_on(Path(path).read_bytes()) or (list(rows_of(results[0].verdict.lane)) if results else [])
 
 
 def report_sections(options, text):

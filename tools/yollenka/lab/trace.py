@@ -31,7 +31,7 @@ def entries(lines, lane, purchase):
     found, number = [], 1
     for line in lines:
         words = line.split(" ")
-        if words[0] != f"L{lane}":
+        if words[0] != f"L{lane}" or len(words) < 2:
             continue
         if words[1] == "power":
             if number == purchase and words[-1] == "torn":
@@ -73,10 +73,13 @@ def lines_of(report):
 def terminal_of(scenario, options):
     """The lane's terminal in a scenario that the program may refuse: then that is said."""
     try:
-        terminal = scenario["lane"][options.lane]
-        terminal["purchase"][options.purchase - 1], terminal["aid"], scenario["issuer"]["pin_key"]
+        terminal, _ = scenario["lane"][options.lane], scenario["issuer"]["pin_key"]
+        tables = [terminal, terminal["purchase"][options.purchase - 1], *terminal["aid"]]
+        is_one = all(isinstance(one, dict) for one in tables)
     except (LookupError, TypeError, AttributeError):
-        raise Fault(f"{options.scenario} has no purchase {options.purchase} of lane {options.lane}, or is no scenario") from None
+        is_one = False
+    if not is_one:
+        raise Fault(f"{options.scenario} has no purchase {options.purchase} of lane {options.lane}, or is no scenario")
     if terminal.get("dialect", "tlv") != "tlv":
         raise Fault("the messages of this lane go in another dialect than a trace's")
     return terminal

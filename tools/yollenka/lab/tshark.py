@@ -69,20 +69,31 @@ def numbers_of(card):
     return {app["pan"].encode() for app in card.get("app", [])} | set(canned_numbers(card.get("canned", [])))
 
 
+def text_of(path):
+    """What a report has. Raises Fault where it is no text."""
+    try:
+        return path.read_text()
+    except ValueError:
+        raise Fault(f"{path} is no text") from None
+
+
 class Sent:
     """A scenario with its report: what its messages hold, and what the dissector has to read in them."""
 
     def __init__(self, path):
         self.name, self.scenario = path.stem, read_document(path)
-        report = path.with_suffix(".report").read_text()
+        report = text_of(path.with_suffix(".report"))
         try:
             self.lanes = {n for n, lane in enumerate(self.scenario["lane"]) if lane.get("dialect") == "iso"}
             self.cards = {card["name"]: numbers_of(card) for card in self.scenario["card"]}
         except (LookupError, TypeError, AttributeError):
             raise Fault(f"{path} is no scenario") from None
         self.codes, self.faults, self.short, self.messages = ends_of(report), [], 0, []
-        for lane, is_reply, message in lines_of(report, self.lanes):
-            self.take(lane, is_reply, message)
+        try:
+            for lane, is_reply, message in lines_of(report, self.lanes):
+                self.take(lane, is_reply, message)
+        except ValueError:
+            raise Fault(f"{path.with_suffix('.report')}: a message has an odd number of digits") from None
 
     def take(self, lane, is_reply, message):
         """Takes a message of the report, where the dissector can read it."""
@@ -118,6 +129,13 @@ class Sent:
 
     def compare(self, sent, read):
         """What differs between a message that was sent and what was read in it."""
+        try:
+            return self.differences(sent, read)
+        except (LookupError, TypeError, ValueError, AttributeError):
+            return [f"{self.name}: lane {sent[0]}: the scenario has no purchase with this message, or it can't be read: {sent[2].hex()}"]
+
+    def differences(self, sent, read):
+        """The same of a message that can be read, and of a scenario with its purchase."""
         (lane, is_reply, message, _, held), (kind, bits, fields) = sent, read
         where = f"{self.name}: lane {lane}, {message[:4].decode()}"
         if kind != message[:4].decode() or kind not in FIELDS or (kind in REPLIES) != is_reply:

@@ -16,6 +16,7 @@ MOST_BODY = 256
 INSTRUCTIONS = {0x00: b"\xa4\xb2\x20\x82", 0x80: b"\xa8\xca\xae", 0x84: b"\x1e\x18\x16\x24", 0x04: b"\xda"}
 SCRIPT_DATA = {"841E0000": 0, "84180000": 0, "84160000": 0, "84240000": 0, "84240002": 8, "04DADF01": 1, "04DADF02": 6}
 GOOD = "9000"
+KINDS = {AAC: "aac", TC: "tc", ARQC: "arqc"}
 
 
 def written(numbers, app):
@@ -84,7 +85,7 @@ class Card:
     """A card with applications; a call may raise Lost."""
 
     def __init__(self, image):
-        self.image = image
+        self.image, self.decided, self.reason = image, [], None
         self.store = Store(encoded(opening(image), image["version"]))
 
     def power_up(self, tear=None):
@@ -111,8 +112,9 @@ class Card:
             shown.append(",".join(map(str, numbers)))
         return " ".join(shown)
 
-    def decide(self, card=None, **changes):
-        """A decision: these parts of the application, or of the card, are changed, in one commit."""
+    def decide(self, words, card=None, **changes):
+        """A decision in words: these parts of the application, or of the card, are changed, in one commit."""
+        self.decided.append(f"app {self.place} {words}")
         self.app.update(changes)
         self.state.update(card or {})
         self.store.commit(encoded(self.state))
@@ -161,7 +163,7 @@ class Card:
         number = next((at for at in range(begin, len(apps)) if apps[at]["name"].startswith(name)), None)
         if number is None:
             return b"", "6a82"
-        self.phase, self.app, self.its = "selected", self.state["apps"][number], apps[number]
+        self.phase, self.app, self.its, self.place = "selected", self.state["apps"][number], apps[number], number
         return self.information(), "6283" if self.app["blocked"] else GOOD
 
     def information(self):
@@ -222,7 +224,8 @@ class Card:
             body = spelled(0x77, spelled(0x82, its["aip"]) + spelled(0x94, its["afl"]))
         if self.app["blocked"] or self.app["counter"] == 0xFFFF or len(body) > MOST_BODY:
             return b"", "6985"
-        self.decide(counter=self.app["counter"] + 1)
+        counter = self.app["counter"] + 1
+        self.decide(f"started {counter}", counter=counter)
         self.phase, self.issuer, self.tried = "started", None, False
         return body, GOOD
 
@@ -236,10 +239,11 @@ class Card:
             return b"", "6a88"
         if self.app["tries"] == 0:
             return b"", "6983"
-        self.decide(tries=self.app["tries"] - 1)
+        tries = self.app["tries"] - 1
+        self.decide(f"pin-try {tries}", tries=tries)
         if block != self.app["pin"]:
             return b"", f"63c{self.app['tries']:x}"
-        self.decide(tries=self.its["tries"])
+        self.decide(f"pin-right {self.its['tries']}", tries=self.its["tries"])
         return b"", GOOD
 
     def session_key(self):
@@ -259,7 +263,9 @@ class Card:
         steers = update[1] if right and update else 0
         changes = {"blocked": True} if steers & 0x40 else {}
         changes |= {"tries": self.its["tries"]} if steers & 0x10 else {}
-        self.decide({"blocked": True} if steers & 0x20 else {}, auth_failed=not right, **changes)
+        words = ["authenticated", "right" if right else "wrong"] + ["block"] * bool(steers & 0x40) + ["card-block"] * bool(steers & 0x20)
+        words += [f"tries {self.its['tries']}"] * bool(steers & 0x10)
+        self.decide(" ".join(words), {"blocked": True} if steers & 0x20 else {}, auth_failed=not right, **changes)
         self.tried = True
         self.issuer = (update or b"\x80\x80\0\0") if right else None
         return b"", GOOD if right else "6300"
@@ -285,6 +291,28 @@ class Card:
         by_currency = {self.its["currency_two"]: ("sum_two", "limit_two"), self.its["currency"]: ("sum", "sum_limit")}
         return by_currency.get(self.fields[0x5F2A])
 
+    def own(self):
+        """Whether the purchase is in the application's currency, in its second one, or in neither."""
+        return {None: "neither", "sum": "one", "sum_two": "two"}[(self.sum_and_limit() or [None])[0]]
+
+    def is_blocked(self):
+        """Whether the card or the application is blocked."""
+        return bool(self.app["blocked"] or self.state["blocked"])
+
+    def because(self, which, asked, made, **further):
+        """Why a cryptogram is of its kind, in the state before its decision: names with their values."""
+        app, names = self.app, self.sum_and_limit()
+        sum_, most = (app[name] for name in names) if names else (0, 0)
+        return {
+            "ac": which, "app": self.place, "asked": KINDS[asked], "made": KINDS[made], **further, "blocked": self.is_blocked(),
+            "auth_failed": app["auth_failed"], "currency": self.fields[0x5F2A].hex(), "own": self.own(), "count": app["count"],
+            "count_limit": app["count_limit"], "sum": sum_, "amount": amount_in(self.fields[0x9F02]), "sum_limit": most,
+        }
+
+    def sale(self):
+        """The purchase in a decision's words."""
+        return f"{self.own()} {amount_in(self.fields[0x9F02])}"
+
     def may_approve(self):
         """Whether the card approves offline."""
         app, names = self.app, self.sum_and_limit()
@@ -304,28 +332,36 @@ class Card:
 
     def first(self, asked):
         """The first cryptogram."""
-        if self.app["blocked"] or self.state["blocked"]:
+        wanted = asked
+        if self.is_blocked():
             asked = AAC
         kind = ARQC if asked == TC and not self.may_approve() else asked
-        self.decide(**(self.approved() if kind == TC else {}), **({} if kind == ARQC else self.logged(kind)))
+        reason = self.because("first", wanted, kind)
+        self.decide(f"first {KINDS[kind]} {self.sale()}",
+                    **(self.approved() if kind == TC else {}), **({} if kind == ARQC else self.logged(kind)))
+        self.reason = reason
         self.phase = "online" if kind == ARQC else "closed"
         body, self.request = self.cryptogram(kind)
         return body, GOOD
 
     def second(self, asked, code):
         """The second cryptogram."""
-        kind, changes, issuer = asked, {}, self.issuer
-        if self.app["blocked"] or self.state["blocked"] or issuer and not issuer[0] & 0x80:
+        kind, changes, issuer, rests = asked, {}, self.issuer, "alone"
+        declined = bool(issuer and not issuer[0] & 0x80)
+        if self.is_blocked() or declined:
             kind = AAC
         if issuer:
+            rests = "authenticated" if issuer[1] & 0x80 else "held"
             changes = {"last_online": self.app["counter"]}
             changes |= {"count": 0, "sum": 0, "sum_two": 0} if issuer[1] & 0x80 else {}
         elif kind == TC and code == b"Y3":
+            rests = "offline"
             kind, changes = (TC, self.approved()) if self.may_approve() else (AAC, {})
         elif kind == TC and self.its["aip"][0] & 0x04:
             kind = AAC
-        self.decide(**changes, **self.logged(kind))
-        self.phase = "done"
+        reason = self.because("second", asked, kind, rests=rests, declined=declined, issuer_auth=bool(self.its["aip"][0] & 0x04))
+        self.decide(f"second {KINDS[kind]} {rests} {self.sale()}", **changes, **self.logged(kind))
+        self.phase, self.reason = "done", reason
         return self.cryptogram(kind)[0], GOOD
 
     def cryptogram(self, kind):
@@ -359,20 +395,21 @@ class Card:
         """What a script command changes; the status."""
         limit = {"tries": self.its["tries"]}
         if header == "84160000":
-            self.decide({"blocked": True})
+            self.decide("script card-block", {"blocked": True})
         elif header == "84240002":
             block = decipher_two(session_key(self.its["enc_key"], self.request), data)
             if pin_in(2, block) is None:
                 return "6985"
-            self.decide(pin=block, **limit)
+            self.decide(f"script pin-change {limit['tries']}", pin=block, **limit)
         elif header == "04DADF02":
             if not has_digits(data):
                 return "6985"
-            self.decide(sum_limit=int(data.hex()))
+            self.decide(f"script sum-limit {int(data.hex())}", sum_limit=int(data.hex()))
         else:
-            changes = {
-                "841E0000": {"blocked": True}, "84180000": {"blocked": False}, "84240000": limit,
-                "04DADF01": {"count_limit": int.from_bytes(data)},
-            }
-            self.decide(**changes[header])
+            words, changes = {
+                "841E0000": ("block", {"blocked": True}), "84180000": ("unblock", {"blocked": False}),
+                "84240000": (f"pin-unblock {limit['tries']}", limit),
+                "04DADF01": (f"count-limit {int.from_bytes(data)}", {"count_limit": int.from_bytes(data)}),
+            }[header]
+            self.decide(f"script {words}", **changes)
         return GOOD

@@ -22,6 +22,18 @@ def state_lines(state):
     return "\n".join(lines)
 
 
+def decided_lines(decided):
+    """The lines of a card's decisions, with newlines between."""
+    return "\n".join([f"decided {len(decided)}", *decided])
+
+
+def why_line(reason):
+    """The line of a reason."""
+    if reason is None:
+        return "?"
+    return "why " + " ".join(f"{name} {str(value).lower()}" for name, value in reason.items())
+
+
 def place_in(line):
     """The place at which a line has the card pulled out, or None."""
     found = PULL.fullmatch(line)
@@ -50,6 +62,10 @@ class CardAtLines:
             return self.state()
         if line == "torn":
             return self.torn()
+        if line == "decided":
+            return decided_lines(self.card.decided)
+        if line == "why":
+            return why_line(self.card.reason)
         if place := place_in(line):
             self.plan = place
             return line
@@ -58,12 +74,14 @@ class CardAtLines:
         try:
             return f"< {self.card.answer(bytes.fromhex(line)).hex()}"
         except Lost:
+            self.cut()
             self.pulled()
             return "< torn"
 
     def power(self):
         """Turns the card on, with the plan that waits."""
         self.is_on, self.taken = True, self.plan
+        self.card.decided, self.card.reason = [], None
         try:
             self.card.power_up(self.plan)
         except Lost:
@@ -83,6 +101,13 @@ class CardAtLines:
             return "?"
         commit, at, write = (self.fired[name] for name in ("commit", "at", "write"))
         return f"torn {commit} {at}" + ("" if write is None else f" {write}")
+
+    def cut(self):
+        """The last decision was cut: none where its first write hadn't begun, kept at its release, and unsure elsewhere."""
+        at, write = self.taken["at"], self.taken["write"]
+        last = self.card.decided.pop()
+        if (at, write) != ("before", 1):
+            self.card.decided.append(last if at == "release" else f"{last} unsure")
 
     def pulled(self):
         """The plan has fired; one that came behind it waits for the next power-up."""

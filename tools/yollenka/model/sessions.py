@@ -13,7 +13,7 @@ MOST_LINES, LONG, MARATHON, LEADING = 60, 250, 256, 40
 NO_LINES = ["", "Power", "power ", "off ", "pull 1 before 0", "pull 256 release", "pull 1 within 256", "pull 1 before", "pull release",
             "pull 1 after 1", "00a4040", "00 a4 04 00", "0x00a40400", "zz", "document 3", "> 00a40400", "pull 1 release 1"]
 
-ASKED = ["state", "state", "torn"]
+ASKED = ["state", "state", "torn", "decided", "decided", "why", "why"]
 
 
 class Sessions:
@@ -54,7 +54,7 @@ class Sessions:
         draw, what = self.draw, self.draw.below(120)
         waits = self.card.plan is not self.card.taken
         if not self.card.is_on:
-            further = [self.pull(), self.pull(0), "pull 0 before 1", "off", "00a4040007a000000003101000", "state", "torn"]
+            further = [self.pull(), self.pull(0), "pull 0 before 1", "off", "00a4040007a000000003101000", *ASKED]
             return draw.one_of(["power"] * 8 + further)
         if what < (20 if waits else 3):
             return "power"
@@ -62,16 +62,23 @@ class Sessions:
             return self.pull()
         if what == 50:
             return draw.one_of(["off", *NO_LINES])
-        if what in (51, 52):
+        if what in (51, 52, 53):
             return draw.one_of(ASKED)
+        told = {"ae": "why", "82": "decided"}.get(self.lines[-1][2:4].lower()) if self.lines else None
+        if told and what < 90:
+            return told
         return draw.text(self.commands.command())
 
     def talk(self, most=MOST_LINES):
         """Up to so many lines, fewer where the card is blocked."""
         for _ in range(most):
-            self.say(self.line())
+            line = self.line()
+            if line in ("power", "off") and self.draw.now(2, 3):
+                self.say("decided")
+            self.say(line)
             if self.card.is_on and self.card.card.state["blocked"] and self.draw.now(1, 6):
                 break
+        self.say("decided")
         return self
 
     def long(self):
@@ -92,6 +99,7 @@ class Sessions:
             if not self.card.is_on or self.card.card.phase != "online":
                 break
             self.say(self.commands.endless().hex())
+        self.say("decided")
         return self.talk()
 
 
