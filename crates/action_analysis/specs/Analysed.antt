@@ -19,13 +19,21 @@ bits_of_either (a ∷ more) (b ∷ bs) = bit_or a b ∷ bits_of_either more bs
 abbrev pub issuer_code : ℕ → ℕ → Entries → List ℕ
 issuer_code tag absent entries = unwrap_or (value_of tag entries) (replicate 5 absent)
 
--- the issuer's action codes with the terminal's: an absent denial code (9F0E) has no bit, an absent online code
--- (9F0F) or default code (9F0D) has all
+-- the issuer's action codes: an absent denial code (9F0E) has no bit, an absent online code (9F0F) or default code
+-- (9F0D) has all
+unfoldable pub issuer_codes : ReadCard → Codes
+issuer_codes card = record {
+  denial = issuer_code 0x9F0E 0x00 card.entries;
+  online = issuer_code 0x9F0F 0xFF card.entries;
+  fallback = issuer_code 0x9F0D 0xFF card.entries;
+}
+
+-- the issuer's action codes joined with the terminal's for an application
 unfoldable pub codes_of : ReadCard → AidRow → Codes
 codes_of card row = record {
-  denial = bits_of_either (issuer_code 0x9F0E 0x00 card.entries) row.denial;
-  online = bits_of_either (issuer_code 0x9F0F 0xFF card.entries) row.online;
-  fallback = bits_of_either (issuer_code 0x9F0D 0xFF card.entries) row.fallback;
+  denial = bits_of_either (issuer_codes card).denial row.denial;
+  online = bits_of_either (issuer_codes card).online row.online;
+  fallback = bits_of_either (issuer_codes card).fallback row.fallback;
 }
 
 -- these results have a bit of this action code

@@ -13,7 +13,8 @@ use emv_dict::{AidRow, Kind, Tvr};
 use env_map::Env;
 use object_lists::CardData;
 
-/// The action codes of issuer and terminal together, with the bits of the terminal verification results.
+/// Action codes, with the bits of the terminal verification results: the issuer's, or those of issuer and
+/// terminal together.
 #[derive(Clone, Copy, PartialEq, Eq, Debug)]
 pub struct Codes {
     /// A common bit declines the transaction.
@@ -24,17 +25,30 @@ pub struct Codes {
     pub fallback: [u8; 5],
 }
 
-/// The issuer's action codes, objects 9F0E, 9F0F and 9F0D, joined with the terminal's for this
-/// application.
+/// The issuer's action codes, objects 9F0E, 9F0F and 9F0D. In place of an absent one stands a denial code
+/// without a bit, or an online or default code with all bits.
+#[tactic(auto, unfolding(crate::specs::Analysed::issuer_codes))]
+pub fn issuer_codes(card: &CardData) -> Codes
+    ensures { result ≡ spec.issuer_codes card.now }
+{
+    let objects = card.env();
+    Codes {
+        denial: issuer_code(objects, Tag(0x9f0e), 0x00),
+        online: issuer_code(objects, Tag(0x9f0f), 0xff),
+        fallback: issuer_code(objects, Tag(0x9f0d), 0xff),
+    }
+}
+
+/// The issuer's action codes joined with the terminal's for this application.
 #[tactic(auto, unfolding(crate::specs::Analysed::codes_of))]
 pub fn codes_of(card: &CardData, row: &AidRow) -> Codes
     ensures { result ≡ spec.codes_of card.now row.now }
 {
-    let objects = card.env();
+    let issuers = issuer_codes(card);
     Codes {
-        denial: joined(issuer_code(objects, Tag(0x9f0e), 0x00), row.denial),
-        online: joined(issuer_code(objects, Tag(0x9f0f), 0xff), row.online),
-        fallback: joined(issuer_code(objects, Tag(0x9f0d), 0xff), row.fallback),
+        denial: joined(issuers.denial, row.denial),
+        online: joined(issuers.online, row.online),
+        fallback: joined(issuers.fallback, row.fallback),
     }
 }
 

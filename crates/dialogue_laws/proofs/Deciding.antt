@@ -40,7 +40,7 @@ use Rattle.online_step.specs.Request.{request_of}
 use Rattle.online_step.specs.declared.ac.GenerateAc.TheVariants as generate
 use Rattle.script_run.specs.Ran.{template_ran}
 use Rattle.terminal_state.specs.StepResults as step_result
-use Rattle.terminal_state.specs.StepResults.{StepResult, state_so_far}
+use Rattle.terminal_state.specs.StepResults.{StepResult, analysed_by, state_so_far}
 use Rattle.terminal_state.specs.Scripts.{templates_of_tag, has_few_scripts, kept_host_reply}
 use Rattle.terminal_state.specs.declared.state_so_far.OnlineRequest.{OnlineRequest}
 use Rattle.terminal_state.specs.declared.state_so_far.OnlineRequest.TheVariants.{Sent, NotSent}
@@ -164,4 +164,4 @@ module _ (image : ImageData) (back : AnswersAreReadBack) (a : AppData) (app : �
 pub analysis_ends : (image : ImageData) → AnswersAreReadBack → AnalysisEnds image
 unfolding analysis
 analysis_ends image back = λ a app now transaction steps_done log own lists here.
-    first_ends image back a app own transaction lists (kind_wanted transaction steps_done) (step_result.HasAnalysed (kind_wanted transaction steps_done) ∷ steps_done) now log here
+    first_ends image back a app own transaction lists (kind_wanted transaction steps_done) (step_result.HasAnalysed (analysed_by transaction.row (kind_wanted transaction steps_done)) ∷ steps_done) now log here

@@ -17,6 +17,7 @@ use Rattle.read_records.specs.Options.{Opened}
 use Rattle.script_run.specs.Ran.{template_ran, no_script}
 use Rattle.terminal_state.specs.StepResults.{StepResult, HasRead, HasRestricted, HasVerified, HasJudged, HasAnalysed, HasFirst, HasReply, WasUnable, HasAuthenticated, HasRunBefore, HasSecond, HasRunBehind}
 use Rattle.terminal_state.specs.Terminal.{Outset}
+use Rattle.terminal_state.specs.declared.state_so_far.Analysed.{Analysed}
 use Rattle.terminal_state.specs.declared.state_so_far.OnlineRequest.{OnlineRequest}
 
 -- whatever a step finds, the result that it leaves is of this form
@@ -25,7 +26,7 @@ pub record EachLeaves (outset : Outset) (P : StepResult → Type 0) : Type 0 whe
   pub restricted : (bits : ℕ) → P (HasRestricted bits)
   pub verified : (card : ReadCard) (answers : List (List ℕ)) → Gives (λ (verified : Verified). P (HasVerified verified)) (cvm card outset.settings outset.purchase answers)
   pub judged : (judged : Judged) → P (HasJudged judged)
-  pub analysed : (wanted : Kind) → P (HasAnalysed wanted)
+  pub analysed : (analysed : Analysed) → P (HasAnalysed analysed)
   pub first : (ac : AcData) → P (HasFirst ac)
   pub replied : (bytes : List ℕ) (reply : ReplyData) → reply_of bytes ≡ Ok reply → P (HasReply reply)
   pub unable_online : (request : OnlineRequest) (tvr : ℕ) (codes : Codes) (kind : ℕ) → P (WasUnable request (unable tvr codes kind))

@@ -31,7 +31,7 @@ use Rattle.online_step.specs.declared.ac.GenerateAc.TheVariants as generate
 use Rattle.restrictions.specs.Restricted.{restricted}
 use Rattle.risk_mgmt.specs.Risky.{risky}
 use Rattle.script_run.specs.Ran.{template_ran, no_script}
-use Rattle.terminal_state.specs.StepResults.{StepResult, state_so_far, latest, open_of, sets_code, offline_code, HasRead, HasRestricted, HasVerified, HasJudged, HasAnalysed, HasFirst, HasReply, WasUnable, HasAuthenticated, HasRunBefore, HasSecond, HasRunBehind}
+use Rattle.terminal_state.specs.StepResults.{StepResult, analysed_by, state_so_far, latest, open_of, sets_code, offline_code, HasRead, HasRestricted, HasVerified, HasJudged, HasAnalysed, HasFirst, HasReply, WasUnable, HasAuthenticated, HasRunBefore, HasSecond, HasRunBehind}
 use Rattle.terminal_state.specs.Scripts.{templates_of_tag, kept_host_reply}
 use Rattle.terminal_state.specs.Terminal.{Outset}
 use Rattle.terminal_state.specs.declared.state_so_far.OnlineRequest.{OnlineRequest}
@@ -165,7 +165,7 @@ module _ (P : StepResult → Type 0) where
     analysis_sound : (transaction : TransactionData) (steps_done : List StepResult) → Before P steps_done → (log : List Logged) (replies : List Reply) → Sound P (analysis transaction steps_done log replies)
     unfolding analysis
     analysis_sound transaction steps_done b =
-        first_sound transaction (kind_wanted transaction steps_done) (HasAnalysed (kind_wanted transaction steps_done) ∷ steps_done) ((leaves.analysed (kind_wanted transaction steps_done), b.0), b.1)
+        first_sound transaction (kind_wanted transaction steps_done) (HasAnalysed (analysed_by transaction.row (kind_wanted transaction steps_done)) ∷ steps_done) ((leaves.analysed (analysed_by transaction.row (kind_wanted transaction steps_done)), b.0), b.1)
 
     risk_sound : (transaction : TransactionData) (steps_done : List StepResult) → Before P steps_done → (log : List Logged) (replies : List Reply) → Sound P (risk transaction steps_done log replies)
     unfolding risk

@@ -28,7 +28,7 @@ CanStand (HasRestricted bits) = ⊤
 -- an entry for the issuer has a PIN's length
 CanStand (HasVerified verified) = sound_pin verified.online_pin ≡ verified.online_pin
 CanStand (HasJudged judged) = ⊤
-CanStand (HasAnalysed wanted) = ⊤
+CanStand (HasAnalysed analysed) = ⊤
 CanStand (HasFirst ac) = ⊤
 -- its scripts are kept as they came
 CanStand (HasReply reply) = kept_host_reply reply ≡ reply

@@ -15,10 +15,10 @@ use Rattle.kernel.specs.declared.stage.Trading.TheVariants as trading
 use Rattle.online_step.specs.Generate.{list_data, generated, generate_command}
 use Rattle.online_step.specs.declared.ac.GenerateAc.TheVariants as generate
 use Rattle.restrictions.specs.Restricted.{restricted}
-use Rattle.terminal_state.specs.StepResults.{StepResult, HasRead, HasRestricted, HasAnalysed, HasFirst, state_so_far}
+use Rattle.terminal_state.specs.StepResults.{StepResult, HasRead, HasRestricted, HasAnalysed, HasFirst, analysed_by, state_so_far}
 use Rattle.terminal_state.specs.declared.table.Table.{Table}
 
-pub analysed : (transaction : TransactionData) → (steps_done : List StepResult) → (asked : Kind) → (log : List Logged) → (rest : List Reply → Standing StepResult) → (t t2 : Table) → Begins t transaction.card steps_done rest (analysis transaction steps_done log) → asked ≡ kind_wanted transaction steps_done → t2.state_so_far ≡ state_so_far (HasAnalysed asked ∷ steps_done) → Begins t2 transaction.card (HasAnalysed asked ∷ steps_done) rest (first transaction asked (HasAnalysed asked ∷ steps_done) log)
+pub analysed : (transaction : TransactionData) → (steps_done : List StepResult) → (asked : Kind) → (log : List Logged) → (rest : List Reply → Standing StepResult) → (t t2 : Table) → Begins t transaction.card steps_done rest (analysis transaction steps_done log) → asked ≡ kind_wanted transaction steps_done → t2.state_so_far ≡ state_so_far (HasAnalysed (analysed_by transaction.row asked) ∷ steps_done) → Begins t2 transaction.card (HasAnalysed (analysed_by transaction.row asked) ∷ steps_done) rest (first transaction asked (HasAnalysed (analysed_by transaction.row asked) ∷ steps_done) log)
 unfolding analysis
 analysed transaction steps_done asked log rest t t2 begins is tied = record {
   passed = λ later. begins.passed later ∙ rw is refl;

@@ -33,7 +33,7 @@ use Rattle.risk_mgmt.proofs.OwnBits as risk_bits
 use Rattle.risk_mgmt.specs.Laws as risk_law
 use Rattle.risk_mgmt.specs.Risky.{risky}
 use Rattle.script_run.specs.Ran.{template_ran, no_script}
-use Rattle.terminal_state.specs.StepResults.{StepResult, sets_tvr, bits_if, with_bits, union, ran_whole, HasRead, HasRestricted, HasVerified, HasJudged, HasAnalysed, HasFirst, HasReply, WasUnable, HasAuthenticated, HasRunBefore, HasSecond, HasRunBehind}
+use Rattle.terminal_state.specs.StepResults.{StepResult, sets_tvr, bits_if, with_bits, union, ran_whole, HasRead, HasRestricted, HasVerified, HasJudged, HasAnalysed, HasFirst, HasReply, WasUnable, HasAuthenticated, HasRunBefore, HasSecond, HasRunBehind, analysed_by}
 use Rattle.terminal_state.specs.Scripts.{templates_of_tag, kept_host_reply}
 use Rattle.terminal_state.specs.declared.state_so_far.OnlineRequest.{OnlineRequest}
 use Rattle.terminal_state.specs.declared.state_so_far.OnlineRequest.TheVariants.{Sent, NotSent}
@@ -208,7 +208,7 @@ first_own transaction asked steps_done own log replies =
 
 analysis_own : (transaction : TransactionData) (steps_done : List StepResult) → AllOwn steps_done → (log : List Logged) (replies : List Reply) → Owns (analysis transaction steps_done log replies)
 unfolding analysis
-analysis_own transaction steps_done own = first_own transaction (kind_wanted transaction steps_done) (HasAnalysed (kind_wanted transaction steps_done) ∷ steps_done) (tt, own)
+analysis_own transaction steps_done own = first_own transaction (kind_wanted transaction steps_done) (HasAnalysed (analysed_by transaction.row (kind_wanted transaction steps_done)) ∷ steps_done) (tt, own)
 
 judged_gives : (progress : Progress Judged) → risk_law.FindsRiskBits progress → Gives (λ judged. risk_law.AreRiskBits judged.tvr.0) progress
 judged_gives (Wants command) finds = tt

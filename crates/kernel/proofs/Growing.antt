@@ -25,7 +25,7 @@ use Rattle.online_step.specs.Authenticate.{authentication_step}
 use Rattle.pse_directory.specs.Directory.{selecting_by}
 use Rattle.read_records.specs.Options.{Opened}
 use Rattle.script_run.specs.Ran.{template_ran, no_script}
-use Rattle.terminal_state.specs.StepResults.{StepResult, HasRead, HasRestricted, HasVerified, HasJudged, HasAnalysed, HasFirst, HasReply, WasUnable, HasAuthenticated, HasRunBefore, HasSecond, HasRunBehind}
+use Rattle.terminal_state.specs.StepResults.{StepResult, HasRead, HasRestricted, HasVerified, HasJudged, HasAnalysed, HasFirst, HasReply, WasUnable, HasAuthenticated, HasRunBefore, HasSecond, HasRunBehind, analysed_by}
 use Rattle.terminal_state.specs.Scripts.{templates_of_tag, kept_host_reply}
 use Rattle.terminal_state.specs.Terminal.{Outset}
 use Rattle.terminal_state.specs.declared.state_so_far.OnlineRequest.{OnlineRequest}
@@ -243,7 +243,7 @@ first_keeps transaction asked steps_done =
 
 analysis_keeps : (transaction : TransactionData) (steps_done : List StepResult) → Keeps steps_done (analysis transaction steps_done)
 unfolding analysis
-analysis_keeps transaction steps_done = later_keeps (HasAnalysed (kind_wanted transaction steps_done)) steps_done _ (first_keeps transaction (kind_wanted transaction steps_done) (HasAnalysed (kind_wanted transaction steps_done) ∷ steps_done))
+analysis_keeps transaction steps_done = later_keeps (HasAnalysed (analysed_by transaction.row (kind_wanted transaction steps_done))) steps_done _ (first_keeps transaction (kind_wanted transaction steps_done) (HasAnalysed (analysed_by transaction.row (kind_wanted transaction steps_done)) ∷ steps_done))
 
 risk_keeps_at : (transaction : TransactionData) (steps_done : List StepResult) (course : List (List ℕ) → Progress Judged)
     → Keeps steps_done (card_step (cut_off steps_done) step.Risk step.Risk steps_done course (λ judged. analysis transaction (HasJudged judged ∷ steps_done)))

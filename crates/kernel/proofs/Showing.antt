@@ -22,7 +22,7 @@ use Rattle.pse_directory.specs.Left.{directory_rest}
 use Rattle.read_records.specs.DataRead.{reading}
 use Rattle.read_records.specs.Options.{initiated}
 use Rattle.risk_mgmt.specs.Asked.{judging_rest}
-use Rattle.terminal_state.specs.StepResults.{StepResult, latest, sets_card}
+use Rattle.terminal_state.specs.StepResults.{StepResult, state_so_far, latest, sets_card}
 use Rattle.terminal_state.specs.Scripts.{templates_of_tag}
 use Rattle.terminal_state.specs.declared.table.Table.{Table}
 
@@ -79,28 +79,31 @@ trading_shows t transaction (trading.ScriptBehind s ending) log rest is =
     is.passed [] ∙ wants (left_script ending (drop s.next (templates_of_tag 0x72 t.reply.scripts)) is.steps_done) step.Script step.Script is.steps_done (script_rest t.running) _ log t.command.items is.shows
 trading_shows t transaction (trading.Over ending) log rest is = is.passed []
 
--- what the dialogue does next is what the stage does, and the card that it read is the kernel's
+-- what the dialogue does next is what the stage does, and the card that it read and what its steps leave are the kernel's
 pub record ShownAt (k : KernelData) (s : Stage) (standing : Standing StepResult) : Type 0 where
   pub steps_done : List StepResult
   pub is : standing ≡ stands steps_done (stage_deed k.table s)
   pub read : latest sets_card None steps_done ≡ k.card
+  pub tied : k.table.state_so_far ≡ state_so_far steps_done
 
 pub stage_shows : (k : KernelData) → (s : Stage) → (log : List Logged) → (rest : List Reply → Standing StepResult) → StageFits k.table k.card s → StageGoes k.table k.card s log rest → ShownAt k s (rest [])
 stage_shows k (stage.Opening s) log rest fits goes = record {
   steps_done = [];
   is = opening_shows k.table s log rest goes;
   read = sym fits.1;
+  tied = goes.tied;
 }
 stage_shows k (stage.Trading at) log rest fits goes = record {
   steps_done = goes.stands.steps_done;
   is = trading_shows k.table (record { outset = outset_in k; row = at.row.now; card = goes.card }) at.trading log rest goes.stands;
   read = goes.stands.read ∙ sym goes.card_is;
+  tied = goes.stands.tied;
 }
 
 pub kernel_shows : (k : KernelData) → (replies : List Reply) → KernelFits k → KernelStands k replies → ShownAt k k.stage (dialogue (outset_in k) replies)
 kernel_shows k replies fits is =
     let shown = stage_shows k k.stage is.log (λ later. dialogue (outset_in k) (replies ++ later)) fits.stage is.goes in
-    record { steps_done = shown.steps_done; is = ap (λ (all : List Reply). dialogue (outset_in k) all) (sym (append-nil replies)) ∙ shown.is; read = shown.read }
+    record { steps_done = shown.steps_done; is = ap (λ (all : List Reply). dialogue (outset_in k) all) (sym (append-nil replies)) ∙ shown.is; read = shown.read; tied = shown.tied }
 
 -- what it does next, as the kernel names it
 pub opening_deed_next : (t : Table) → (s : Opening) → deed_next (opening_deed t s) ≡ opening_next s
@@ -161,3 +164,8 @@ pub card_is_told : (k : KernelData) → (replies : List Reply) → KernelFits k 
 card_is_told k replies fits is =
     let shown = kernel_shows k replies fits is in
     sym shown.read ∙ ap (λ (standing : Standing StepResult). latest sets_card None standing.steps_done) (sym shown.is)
+
+pub state_is_told : (k : KernelData) → (replies : List Reply) → KernelFits k → KernelStands k replies → k.table.state_so_far ≡ state_so_far (dialogue (outset_in k) replies).steps_done
+state_is_told k replies fits is =
+    let shown = kernel_shows k replies fits is in
+    shown.tied ∙ ap (λ (standing : Standing StepResult). state_so_far standing.steps_done) (sym shown.is)

@@ -33,7 +33,7 @@ use Rattle.online_step.specs.Authenticate.{authentication_step}
 use Rattle.online_step.specs.Captures.{presentment_of, presentment_data, reversal_of, reversal_data}
 use Rattle.read_records.specs.Options.{Opened}
 use Rattle.script_run.specs.Ran.{template_ran, no_script}
-use Rattle.terminal_state.specs.StepResults.{StepResult, StateSoFarData, state_so_far, latest, open_of, sets_counter, sets_ac, sets_card, HasVerified, HasJudged, HasAnalysed, HasFirst, HasReply, WasUnable, HasAuthenticated, HasRunBefore, HasSecond, HasRunBehind}
+use Rattle.terminal_state.specs.StepResults.{StepResult, StateSoFarData, state_so_far, latest, open_of, sets_counter, sets_ac, sets_card, HasVerified, HasJudged, HasAnalysed, HasFirst, HasReply, WasUnable, HasAuthenticated, HasRunBefore, HasSecond, HasRunBehind, analysed_by}
 use Rattle.terminal_state.specs.Scripts.{templates_of_tag, kept_host_reply}
 use Rattle.terminal_state.specs.Terminal.{Outset}
 use Rattle.terminal_state.specs.declared.state_so_far.OnlineRequest.{OnlineRequest}
@@ -275,7 +275,7 @@ first_told transaction asked steps_done b log replies =
 
 analysis_told : (transaction : TransactionData) (steps_done : List StepResult) → Before steps_done → (log : List Logged) (replies : List Reply) → Told transaction.outset (analysis transaction steps_done log replies)
 unfolding analysis
-analysis_told transaction steps_done b = first_told transaction (kind_wanted transaction steps_done) (HasAnalysed (kind_wanted transaction steps_done) ∷ steps_done) b
+analysis_told transaction steps_done b = first_told transaction (kind_wanted transaction steps_done) (HasAnalysed (analysed_by transaction.row (kind_wanted transaction steps_done)) ∷ steps_done) b
 
 risk_told : (transaction : TransactionData) (steps_done : List StepResult) → Before steps_done → (log : List Logged) (replies : List Reply) → Told transaction.outset (risk transaction steps_done log replies)
 unfolding risk

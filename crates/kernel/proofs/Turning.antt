@@ -32,7 +32,7 @@ use Rattle.pse_directory.specs.Directory.{selecting_by}
 use Rattle.read_records.specs.DataRead.{reading}
 use Rattle.read_records.specs.Options.{Opened, initiating}
 use Rattle.script_run.specs.Ran.{template_ran}
-use Rattle.terminal_state.specs.StepResults.{StepResult, state_so_far, latest, sets_card, HasVerified, HasJudged, HasAnalysed, HasFirst, HasReply, WasUnable, HasAuthenticated, HasRunBefore, HasSecond, HasRunBehind}
+use Rattle.terminal_state.specs.StepResults.{StepResult, state_so_far, latest, sets_card, HasVerified, HasJudged, HasAnalysed, HasFirst, HasReply, WasUnable, HasAuthenticated, HasRunBefore, HasSecond, HasRunBehind, analysed_by}
 use Rattle.terminal_state.specs.Scripts.{templates_of_tag, sound_scripts, kept_host_reply}
 use Rattle.terminal_state.specs.Terminal.{Outset, terminal_objects}
 use Rattle.terminal_state.specs.declared.state_so_far.OnlineRequest.{OnlineRequest}
@@ -303,7 +303,7 @@ first_turns transaction asked steps_done u named =
 
 analysis_turns : (transaction : TransactionData) (steps_done : List StepResult) → IsUnanswered transaction steps_done → Turns steps_done (analysis transaction steps_done)
 unfolding analysis
-analysis_turns transaction steps_done u = first_turns transaction (kind_wanted transaction steps_done) (HasAnalysed (kind_wanted transaction steps_done) ∷ steps_done) u (λ instruction. refl)
+analysis_turns transaction steps_done u = first_turns transaction (kind_wanted transaction steps_done) (HasAnalysed (analysed_by transaction.row (kind_wanted transaction steps_done)) ∷ steps_done) u (λ instruction. refl)
 
 risk_turns_at : (transaction : TransactionData) (steps_done : List StepResult) → IsUnanswered transaction steps_done → IsNamed step.Risk steps_done → (course : List (List ℕ) → Progress Judged)
     → Turns steps_done (card_step (cut_off steps_done) step.Risk step.Risk steps_done course (λ judged. analysis transaction (HasJudged judged ∷ steps_done)))

@@ -27,7 +27,7 @@ use Rattle.online_step.specs.declared.ac.GenerateAc.TheVariants as generate
 use Rattle.pse_directory.specs.Directory.{selecting_by}
 use Rattle.read_records.specs.Options.{Opened}
 use Rattle.risk_mgmt.specs.Risky.{risky}
-use Rattle.terminal_state.specs.StepResults.{StepResult, StateSoFarData, HasRead, HasRestricted, HasVerified, HasJudged, HasAnalysed, HasFirst, HasReply, WasUnable, HasAuthenticated, HasRunBefore, HasSecond, HasRunBehind, state_so_far, latest, open_of, sets_card}
+use Rattle.terminal_state.specs.StepResults.{StepResult, StateSoFarData, HasRead, HasRestricted, HasVerified, HasJudged, HasAnalysed, HasFirst, HasReply, WasUnable, HasAuthenticated, HasRunBefore, HasSecond, HasRunBehind, analysed_by, state_so_far, latest, open_of, sets_card}
 use Rattle.terminal_state.specs.Terminal.{Outset}
 
 -- it is no approval, and no request was made that may have been one
@@ -102,7 +102,7 @@ module _ (transaction : TransactionData) where
 
   analysis_starts : (steps_done : List StepResult) → latest open_of false steps_done ≡ false → Starts (analysis transaction steps_done)
   unfolding analysis
-  analysis_starts steps_done closed = first_starts (kind_wanted transaction steps_done) (HasAnalysed (kind_wanted transaction steps_done) ∷ steps_done) closed
+  analysis_starts steps_done closed = first_starts (kind_wanted transaction steps_done) (HasAnalysed (analysed_by transaction.row (kind_wanted transaction steps_done)) ∷ steps_done) closed
 
   risk_starts : (steps_done : List StepResult) → latest open_of false steps_done ≡ false → Starts (risk transaction steps_done)
   unfolding risk
@@ -126,7 +126,7 @@ card_stays (HasRead card ∷ later) steps_done there = refl
 card_stays (HasRestricted bits ∷ later) steps_done there = card_stays later steps_done there
 card_stays (HasVerified verified ∷ later) steps_done there = card_stays later steps_done there
 card_stays (HasJudged judged ∷ later) steps_done there = card_stays later steps_done there
-card_stays (HasAnalysed wanted ∷ later) steps_done there = card_stays later steps_done there
+card_stays (HasAnalysed analysed ∷ later) steps_done there = card_stays later steps_done there
 card_stays (HasFirst ac ∷ later) steps_done there = card_stays later steps_done there
 card_stays (HasReply reply ∷ later) steps_done there = card_stays later steps_done there
 card_stays (WasUnable request wanted ∷ later) steps_done there = card_stays later steps_done there

@@ -145,7 +145,7 @@ step_behind_reply (Some reply) steps_done =
 abbrev pub step_behind : StepResult → List StepResult → Step
 step_behind (HasRestricted bits) steps_done = step.Verify
 step_behind (HasVerified verified) steps_done = step.Risk
-step_behind (HasAnalysed wanted) steps_done = step.First
+step_behind (HasAnalysed analysed) steps_done = step.First
 step_behind (HasReply reply) steps_done = step_behind_reply (latest sets_reply None steps_done) steps_done
 step_behind (HasAuthenticated good) steps_done = step_behind_reply (latest sets_reply None steps_done) steps_done
 step_behind (HasRunBefore result) steps_done = step_behind_reply (latest sets_reply None steps_done) steps_done

@@ -31,7 +31,7 @@ pub(crate) fn analyse<'s>(table: &mut Table<'s>, transaction: &Transaction<'_, '
     ensures step { StepComes table.old table.new result (5 + most_scripts) }
 {
     let asked = kind_wanted(&table.state_so_far, transaction);
-    table.state_so_far.has_analysed(asked);
+    table.state_so_far.has_analysed(transaction.row, asked);
     begin_first(table, transaction, asked)
 }
 

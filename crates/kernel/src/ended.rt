@@ -3,7 +3,6 @@
 ghost use Rattle.std.specs.Prelude.{◌≡◌, ℕ, List, Some, option_map};
 ghost use Rattle.auth_message.specs.Whole.{IsMessage};
 ghost use Rattle.emv_dict.specs.Settings.{IsPurchase};
-ghost use Rattle.env_map.specs.Entries.{value_of};
 ghost use Rattle.kernel.specs.Ended as spec;
 ghost use Rattle.kernel.specs.Kernel.{stage_next, trading_next};
 ghost use Rattle.kernel.specs.EndShown.{shown_end, stage_over, trading_over};
@@ -208,6 +207,8 @@ pub(crate) fn end_record(
         is_open: _,
         tvr_when_first: _,
         tvr_when_second: _,
+        analysed: _,
+        concluded: _,
         scripts,
     } = state_so_far;
     EndRecord {
@@ -329,18 +330,15 @@ fn results_behind(card: &CardData, first: Tvr, second: Option<Tvr>) -> Tvr
     let Some(second) = second else {
         return first;
     };
-    if asks_results(card) { second } else { first }
-}
-
-/// Whether the object list of the second GENERATE AC names the terminal verification results.
-fn asks_results(card: &CardData) -> bool
-    ensures { result ≡ spec.asks_results (value_of 0x8D card.now.entries) }
-{
     let Some(list) = card.value(SECOND_LIST) else {
-        return false;
+        return first;
     };
     let Ok(dol) = read_dol(list) else {
-        return false;
+        return first;
     };
-    place(&dol, RESULTS, 5).is_some()
+    if place(&dol, RESULTS, 5).is_some() {
+        second
+    } else {
+        first
+    }
 }

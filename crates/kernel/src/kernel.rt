@@ -7,7 +7,7 @@ ghost use Rattle.kernel.specs.Dialogue.{dialogue};
 ghost use Rattle.kernel.specs.Kernel.{KernelStands, outset_in, kernel_next, standing_next, told_bytes};
 ghost use Rattle.kernel.specs.Kernel as spec;
 ghost use Rattle.kernel.specs.Reply.{Reply};
-ghost use Rattle.terminal_state.specs.StepResults.{latest, sets_card};
+ghost use Rattle.terminal_state.specs.StepResults.{latest, sets_card, state_so_far};
 
 use crate::selection;
 use crate::stage::{Opening, Stage, Trading};
@@ -136,6 +136,15 @@ impl<'s> Kernel<'s> {
             → option_map (λ card. card.now) result ≡ latest sets_card None (dialogue (outset_in self.now) replies).steps_done }
     {
         self.card.get()
+    }
+
+    /// What the steps that are finished leave, until the end is handed out.
+    pub fn state_so_far(&self) -> &StateSoFar
+        ensures exact { result.now ≡ self.now.table.state_so_far }
+        ensures told { (replies : List Reply) → KernelStands self.now replies
+            → result.now ≡ state_so_far (dialogue (outset_in self.now) replies).steps_done }
+    {
+        &self.table.state_so_far
     }
 }
 

@@ -9,8 +9,12 @@ use Rattle.emv_dict.specs.Views.{AcData}
 use Rattle.emv_dict.specs.declared.ending.Kind.{Kind}
 use Rattle.emv_dict.specs.declared.ending.Kind.TheVariants.{Aac, Tc, Arqc}
 use Rattle.emv_dict.specs.declared.judged.Judged.{Judged}
+use Rattle.emv_dict.specs.declared.purchase.AidRow.{AidRow}
 use Rattle.emv_dict.specs.declared.verified.Verified.{Verified}
 use Rattle.object_lists.specs.CardRead.{ReadCard}
+use Rattle.terminal_state.specs.declared.state_so_far.Analysed.{Analysed}
+use Rattle.terminal_state.specs.declared.state_so_far.Conclusion.{Conclusion}
+use Rattle.terminal_state.specs.declared.state_so_far.Conclusion.TheVariants.{ByReply, ByAnalysis}
 use Rattle.terminal_state.specs.declared.state_so_far.OnlineRequest.{OnlineRequest}
 use Rattle.terminal_state.specs.declared.state_so_far.OnlineRequest.TheVariants.{Sent, NotSent}
 
@@ -20,8 +24,8 @@ pub data StepResult : Type 0 where
   HasRestricted : (bits : ℕ) → StepResult
   HasVerified : (verified : Verified) → StepResult
   HasJudged : (judged : Judged) → StepResult
-  -- action analysis wants this kind of cryptogram first
-  HasAnalysed : (wanted : Kind) → StepResult
+  -- action analysis wants this kind of cryptogram first, by these codes of the terminal
+  HasAnalysed : (analysed : Analysed) → StepResult
   HasFirst : (ac : AcData) → StepResult
   -- the host's reply was read
   HasReply : (reply : ReplyData) → StepResult
@@ -33,6 +37,10 @@ pub data StepResult : Type 0 where
   HasSecond : (ac : AcData) → StepResult
   -- a template 72
   HasRunBehind : (result : List ℕ) → StepResult
+
+-- in the application of this row, action analysis wants this kind first
+abbrev pub analysed_by : AidRow → Kind → Analysed
+analysed_by row wanted = record { denial = row.denial; online = row.online; fallback = row.fallback; wanted = wanted }
 
 -- these bits where the condition holds
 abbrev pub bits_if : Bool → ℕ → ℕ
@@ -96,7 +104,7 @@ unable_code Arqc = 0x5A ∷ 0x33 ∷ []
 
 -- the authorisation response code (8A) that a step sets, or takes away
 abbrev pub sets_code : StepResult → Option (Option (List ℕ))
-sets_code (HasAnalysed wanted) = Some (offline_code wanted)
+sets_code (HasAnalysed analysed) = Some (offline_code analysed.wanted)
 sets_code (HasFirst ac) = Some (offline_code ac.kind)
 sets_code (HasReply reply) = Some (Some reply.code)
 sets_code (WasUnable request wanted) = Some (Some (unable_code wanted))
@@ -149,6 +157,17 @@ open_of (HasReply reply) = Some (bytes_eq reply.code (0x30 ∷ 0x30 ∷ []))
 open_of (WasUnable request wanted) = Some (was_sent request)
 open_of other = None
 
+-- the terminal's codes, and the kind that is asked for first
+abbrev pub sets_analysed : StepResult → Option (Option Analysed)
+sets_analysed (HasAnalysed analysed) = Some (Some analysed)
+sets_analysed other = None
+
+-- what the kind of the second cryptogram rests on
+abbrev pub sets_conclusion : StepResult → Option (Option Conclusion)
+sets_conclusion (HasReply reply) = Some (Some (ByReply reply.code))
+sets_conclusion (WasUnable request wanted) = Some (Some (ByAnalysis wanted))
+sets_conclusion other = None
+
 -- the results of the scripts, the first one first
 abbrev pub scripts_results : List StepResult → List (List ℕ)
 scripts_results [] = []
@@ -159,7 +178,7 @@ scripts_results (other ∷ steps_done) = scripts_results steps_done
 -- the terminal verification results when the first GENERATE AC was asked, and the second one
 abbrev pub tvr_when_first : List StepResult → ℕ
 tvr_when_first [] = 0
-tvr_when_first (HasAnalysed wanted ∷ steps_done) = union sets_tvr steps_done
+tvr_when_first (HasAnalysed analysed ∷ steps_done) = union sets_tvr steps_done
 tvr_when_first (other ∷ steps_done) = tvr_when_first steps_done
 
 abbrev pub tvr_when_second : List StepResult → Option ℕ
@@ -181,6 +200,8 @@ pub record StateSoFarData : Type 0 where
   pub is_open : Bool
   pub tvr_when_first : ℕ
   pub tvr_when_second : Option ℕ
+  pub analysed : Option Analysed
+  pub concluded : Option Conclusion
   pub scripts : List (List ℕ)
 
 -- what the terminal holds once these steps are finished
@@ -197,5 +218,7 @@ state_so_far steps_done = record {
   is_open = latest open_of false steps_done;
   tvr_when_first = tvr_when_first steps_done;
   tvr_when_second = tvr_when_second steps_done;
+  analysed = latest sets_analysed None steps_done;
+  concluded = latest sets_conclusion None steps_done;
   scripts = scripts_results steps_done;
 }

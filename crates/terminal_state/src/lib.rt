@@ -9,6 +9,6 @@ pub mod table;
 pub mod terminal;
 
 pub use held::HeldCard;
-pub use state_so_far::{IssuerData, OnlineRequest, StateSoFar};
+pub use state_so_far::{Analysed, Conclusion, IssuerData, OnlineRequest, StateSoFar};
 pub use table::{HostReply, Table};
 pub use terminal::put_terminal;

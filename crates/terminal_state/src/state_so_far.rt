@@ -2,12 +2,12 @@
 ghost use Rattle.std.specs.Prelude.{◌≡◌, ◌+◌, [], ◌∷◌, ◌<◌, ◌≤◌, ℕ, List, length, option_map, IfSome, Some, not};
 ghost use Rattle.emv_dict.specs.Digits.{HasPinLength};
 ghost use Rattle.object_lists.specs.CardRead.{ReadCard};
-ghost use Rattle.terminal_state.specs.StepResults.{StepResult, HasRead, HasRestricted, HasVerified, HasJudged, HasAnalysed, HasFirst, HasReply, WasUnable, HasAuthenticated, HasRunBefore, HasSecond, HasRunBehind, state_so_far, offline_code as spec_offline, unable_code as spec_unable, ran_whole as whole_test, bits_if, sound_pin as sound, was_sent as sent_test};
+ghost use Rattle.terminal_state.specs.StepResults.{StepResult, HasRead, HasRestricted, HasVerified, HasJudged, HasAnalysed, HasFirst, HasReply, WasUnable, HasAuthenticated, HasRunBefore, HasSecond, HasRunBehind, analysed_by, state_so_far, offline_code as spec_offline, unable_code as spec_unable, ran_whole as whole_test, bits_if, sound_pin as sound, was_sent as sent_test};
 
 use arrayvec::ArrayVec;
 use auth_message::Reply;
 use ber_tlv::append;
-use emv_dict::{Ac, Digits, Judged, Kind, Tsi, Tvr, Verified, is_pin_length};
+use emv_dict::{Ac, AidRow, Digits, Judged, Kind, Tsi, Tvr, Verified, is_pin_length};
 use std::marker::Model;
 
 /// The issuer authentication data (91): 8 to 16 bytes.
@@ -20,6 +20,29 @@ pub enum OnlineRequest {
     Sent,
     /// The terminal never goes online.
     NotSent,
+}
+
+/// Terminal action analysis: the terminal's own action codes for the application, and the kind of cryptogram
+/// that is asked for first (EMV 4.3 Book 3 section 10.7).
+#[derive(Clone, Copy)]
+pub struct Analysed {
+    /// The code for denial.
+    pub denial: [u8; 5],
+    /// The code for going online.
+    pub online: [u8; 5],
+    /// The default code.
+    pub fallback: [u8; 5],
+    /// The kind.
+    pub wanted: Kind,
+}
+
+/// What the kind of the second cryptogram rests on (EMV 4.3 Book 3 sections 10.9 and 10.11).
+#[derive(Clone, Copy)]
+pub enum Conclusion {
+    /// The host's reply was read: its authorisation response code, which asks for TC or AAC.
+    ByReply([u8; 2]),
+    /// The terminal was unable to go online: the kind that action analysis wants then.
+    ByAnalysis(Kind),
 }
 
 /// What the steps that are finished leave.
@@ -44,6 +67,9 @@ pub struct StateSoFar {
     /// The terminal verification results when the first GENERATE AC was asked, and the second one.
     pub tvr_when_first: Tvr,
     pub tvr_when_second: Option<Tvr>,
+    /// What the kind of the first cryptogram rests on, and that of the second one.
+    pub analysed: Option<Analysed>,
+    pub concluded: Option<Conclusion>,
     /// The results of the scripts.
     pub scripts: ArrayVec<[u8; 5], 8>,
 }
@@ -66,6 +92,8 @@ impl Model for StateSoFar {
       is_open = m.is_open;
       tvr_when_first = m.tvr_when_first.0;
       tvr_when_second = option_map (λ tvr. tvr.0) m.tvr_when_second;
+      analysed = m.analysed;
+      concluded = m.concluded;
       scripts = m.scripts.items;
     } };
 
@@ -92,6 +120,8 @@ impl StateSoFar {
             is_open: false,
             tvr_when_first: Tvr(0),
             tvr_when_second: None,
+            analysed: None,
+            concluded: None,
             scripts: ArrayVec::new(),
         }
     }
@@ -152,13 +182,19 @@ impl StateSoFar {
         self.tsi = Tsi(self.tsi.0 | tsi_if(judged.performed, Tsi::TERMINAL_RISK_MANAGEMENT));
     }
 
-    /// Terminal action analysis asks the card for this kind of cryptogram.
-    pub fn has_analysed(&mut self, wanted: Kind)
-        ensures steps_done { (steps_done : List StepResult) → self.old ≡ state_so_far steps_done → self.new ≡ state_so_far (HasAnalysed wanted ∷ steps_done) }
+    /// Terminal action analysis, in the application of this row, asks the card for this kind of cryptogram.
+    pub fn has_analysed(&mut self, row: &AidRow, wanted: Kind)
+        ensures steps_done { (steps_done : List StepResult) → self.old ≡ state_so_far steps_done → self.new ≡ state_so_far (HasAnalysed (analysed_by row.now wanted) ∷ steps_done) }
         ensures scripts { self.new.scripts ≡ self.old.scripts }
     {
         self.tvr_when_first = self.tvr;
         self.code = offline_code(wanted);
+        self.analysed = Some(Analysed {
+            denial: row.denial,
+            online: row.online,
+            fallback: row.fallback,
+            wanted,
+        });
     }
 
     /// The card has answered the first GENERATE AC.
@@ -183,6 +219,7 @@ impl StateSoFar {
         self.code = Some(reply.code);
         self.issuer_data = kept(reply.auth);
         self.is_open = reply.code == *b"00";
+        self.concluded = Some(Conclusion::ByReply(reply.code));
     }
 
     /// The terminal was unable to go online, behind a request or without one, and asks for this kind of
@@ -193,6 +230,7 @@ impl StateSoFar {
     {
         self.code = Some(unable_code(wanted));
         self.is_open = was_sent(request);
+        self.concluded = Some(Conclusion::ByAnalysis(wanted));
     }
 
     /// The card has answered EXTERNAL AUTHENTICATE, and found the issuer's cryptogram `good` or not.

@@ -1,6 +1,6 @@
 //! Action analysis by rows: the codes of issuer and terminal, and what terminals of each type ask for.
 use crate::fixture::{card_with, row};
-use action_analysis::{Codes, codes_of, unable, wanted};
+use action_analysis::{Codes, codes_of, issuer_codes, unable, wanted};
 use emv_dict::{Kind, Tvr};
 
 /// Objects of a card: tags and values.
@@ -79,6 +79,28 @@ fn codes_and_types_choose_the_kind(rt: HostRuntime) {
             "{firsts:?} {others:?}"
         );
     }
+}
+
+/// The issuer's codes by themselves, and what stands in place of absent ones.
+#[test]
+fn absent_codes_of_the_issuer_have_their_bytes(rt: HostRuntime) {
+    let absent = Codes {
+        denial: [0; 5],
+        online: [0xff; 5],
+        fallback: [0xff; 5],
+    };
+    assert!(rt; issuer_codes(&card_with(&rt, &[])) == absent);
+    let objects: [(u32, &[u8]); 3] = [
+        (0x9f0d, &[1, 2, 3, 4, 5]),
+        (0x9f0e, &[6, 7, 8, 9, 10]),
+        (0x9f0f, &[11, 12, 13, 14, 15]),
+    ];
+    let there = Codes {
+        denial: [6, 7, 8, 9, 10],
+        online: [11, 12, 13, 14, 15],
+        fallback: [1, 2, 3, 4, 5],
+    };
+    assert!(rt; issuer_codes(&card_with(&rt, &objects)) == there);
 }
 
 /// The terminal's codes count beside the issuer's.

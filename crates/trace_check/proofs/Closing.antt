@@ -24,7 +24,7 @@ use Rattle.kernel.specs.declared.stage.OnlineOutcome.TheVariants.{Replied, Unabl
 use Rattle.online_step.specs.Authenticate.{authentication_step}
 use Rattle.read_records.specs.Options.{Opened}
 use Rattle.script_run.specs.Ran.{template_ran}
-use Rattle.terminal_state.specs.StepResults.{StepResult, HasVerified, HasJudged, HasAnalysed, HasFirst, HasReply, WasUnable, HasAuthenticated, HasRunBefore, HasSecond, HasRunBehind}
+use Rattle.terminal_state.specs.StepResults.{StepResult, HasVerified, HasJudged, HasAnalysed, HasFirst, HasReply, WasUnable, HasAuthenticated, HasRunBefore, HasSecond, HasRunBehind, analysed_by}
 use Rattle.terminal_state.specs.Scripts.{templates_of_tag, kept_host_reply}
 use Rattle.terminal_state.specs.Terminal.{Outset}
 use Rattle.terminal_state.specs.declared.state_so_far.OnlineRequest.{OnlineRequest}
@@ -209,7 +209,7 @@ first_closes transaction asked steps_done =
 
 analysis_closes : (transaction : TransactionData) (steps_done : List StepResult) → Closes (analysis transaction steps_done)
 unfolding analysis
-analysis_closes transaction steps_done = first_closes transaction (kind_wanted transaction steps_done) (HasAnalysed (kind_wanted transaction steps_done) ∷ steps_done)
+analysis_closes transaction steps_done = first_closes transaction (kind_wanted transaction steps_done) (HasAnalysed (analysed_by transaction.row (kind_wanted transaction steps_done)) ∷ steps_done)
 
 risk_at : (transaction : TransactionData) (steps_done : List StepResult) (course : List (List ℕ) → Progress Judged)
     → Closes (card_step (cut_off steps_done) step.Risk step.Risk steps_done course (λ judged. analysis transaction (HasJudged judged ∷ steps_done)))
