@@ -2,8 +2,8 @@
 use Rattle.std.proofs.Common.{◌≡◌, ℕ, zero, suc, List, Option, Some, Ok, Err, refl, sym, ap, ◌∙◌, subst, inl, inr}
 use Rattle.emv_ports.specs.Memory.{Memory}
 use Rattle.emv_ports.specs.Reading.{ReadsUpTo}
-use Rattle.emv_top.specs.Answers.{Answers, AnswersRead, AreSettled, Completes, IsRunCut, IsInputRefused, IsRunWhole, Leaves, Plays, Refuses, ToldReplays}
-use Rattle.emv_top.specs.RunsSoFar.{Replays, RunOfBytes, ReadsLane, RunWasStopped, all_lines, shown_lines}
+use Rattle.emv_top.specs.Answers.{Answers, AnswersRead, AreSettled, Completes, IsRunCut, IsInputRefused, IsRunWhole, Leaves, Plays, Refuses, ToldReads, ToldReplays}
+use Rattle.emv_top.specs.RunsSoFar.{Replays, RunOfBytes, ReadOfBytes, ReadsLane, RunWasStopped, all_lines, shown_lines}
 use Rattle.emv_top.specs.Decided.{DecidedRun, RunsAreDecided}
 use Rattle.emv_top.specs.Input.{IsInput}
 use Rattle.emv_top.specs.StatusCode.{SourceCount, status_code}
@@ -15,12 +15,14 @@ use Rattle.emv_top.proofs.Going.{stopped_with, completes_with}
 use Rattle.emv_top.proofs.LineBytes.{told_lines}
 use Rattle.emv_top.proofs.ReadRuns.{read_fair}
 use Rattle.emv_top.proofs.ReadSettled.{read_settled, read_calm}
+use Rattle.emv_top.proofs.ReadTold.{read_named}
 use Rattle.emv_top.proofs.Settled.{run_settled}
 use Rattle.kernel.specs.Laws.{ReadingCapturesNothing}
 use Rattle.kernel.specs.Tally.{Counts}
 use Rattle.scenario.specs.Plan.{ScenarioData, IsScenario}
 use Rattle.scenario_fields.specs.Line.{refused_line}
 use Rattle.scenario_fields.specs.declared.fault.ScenarioFault.{ScenarioFault}
+use Rattle.txn_replay.specs.Asking.{WholeRunsAsk}
 use Rattle.txn_replay.specs.Captured.{CapturesAreSent, LostAreTold, WholeRunsTellLost}
 use Rattle.txn_replay.specs.Laws.{RunsAreFair, WholeRunsAreFair, IsFair}
 use Rattle.txn_replay.specs.Named.{RunsNameCards, WholeRunsNameCards}
@@ -33,13 +35,13 @@ use Rattle.txn_replay.specs.ToldByLines.{RunsTellLosses, WholeRunsTellLosses}
 use Rattle.txn_replay.specs.World.{World}
 use Rattle.txn_replay.specs.Seen.{WorldSeen, WorldStands}
 
--- in a whole run purchases are decided, the losses of cards and terminals told, and dialects spelled, and a lane that shares
--- nothing runs as if it were alone; the laws are kept, and no decision is open
-pub decided_whole : (s : ScenarioData) (v : WorldSeen) (old new : Option (List ℕ)) → WholeRunsAreFair → RunsAreDecided → WholeRunsNameCards → WholeRunsTellLosses
+-- in a whole run purchases are decided, commands with their answers and the losses of cards and terminals told, and dialects
+-- spelled, and a lane that shares nothing runs as if it were alone; the laws are kept, and no decision is open
+pub decided_whole : (s : ScenarioData) (v : WorldSeen) (old new : Option (List ℕ)) → WholeRunsAreFair → RunsAreDecided → WholeRunsNameCards → WholeRunsAsk → WholeRunsTellLosses
     → WholeRunsTellLost → WholeDialectsShow → CapturesAreSent → StoresAreEmptied → LanesStandAlone
     → ((w : World) → WorldStands v w → AreMessages w) → IsScenario s → Completes (RunOfBytes s) (WorldStands v) old new
     → Completes (DecidedRun s) (λ w. WorldStands v w × IsFair s w × AreSettled s w) old new
-decided_whole s v old new law decides names losses lost dialects captures emptied alone messages fits whole =
+decided_whole s v old new law decides names asked losses lost dialects captures emptied alone messages fits whole =
     let run : Run s whole.lines whole.world = whole.run.0 in
     record {
       lines = whole.lines;
@@ -48,6 +50,7 @@ decided_whole s v old new law decides names losses lost dialects captures emptie
         run = run;
         decided = decides s Finished run.count run.choices run.reported whole.world run.reached fits;
         told = told_lines whole.lines whole.run.1 (names s whole.lines whole.world fits run);
+        commands = asked s whole.lines whole.world run;
         losses = losses s whole.lines whole.world fits run;
         lost = lost s whole.lines whole.world run;
         dialects = λ iso.
@@ -82,13 +85,13 @@ module _ (s : ScenarioData) (v : WorldSeen) (told : v.scenario ≡ s) (old new :
       ))
       (λ n cs ls w tail ends stands. left w stands (law s ends.0 n cs ls w ends.1)) stopped
 
-  pub whole_reading : (whole : ScenarioData) → s ≡ to_read whole → RunsAreFair → ReadingCapturesNothing → Completes (ReadRun whole) (WorldStands v) old new → IsRunWhole Read whole old new bank tally
-  whole_reading whole same law nothing completes =
-      let run : ReadRun whole completes.lines completes.world = completes.run in
+  pub whole_reading : (whole : ScenarioData) → s ≡ to_read whole → IsScenario s → RunsAreFair → ReadingCapturesNothing → Completes (ReadOfBytes whole) (WorldStands v) old new → IsRunWhole Read whole old new bank tally
+  whole_reading whole same fits law nothing completes =
+      let run : ReadRun whole completes.lines completes.world = completes.run.0 in
       record {
         lines = completes.lines;
         world = completes.world;
-        run = read_calm whole nothing completes.lines completes.world run;
+        run = read_calm whole nothing (subst IsScenario same fits) completes.lines completes.world run completes.run.1;
         stands = (
           subst (λ (t : ScenarioData). Leaves t bank tally completes.world) same
               (left completes.world completes.stands
@@ -99,10 +102,12 @@ module _ (s : ScenarioData) (v : WorldSeen) (told : v.scenario ≡ s) (old new :
         written = completes.written;
       }
 
-  pub cut_reading : (whole : ScenarioData) → s ≡ to_read whole → RunsAreFair → RunWasStopped s shown_lines (ReadsLane s) (WorldStands v) old new → IsRunCut Read whole old new bank tally
-  cut_reading whole same law stopped =
-      subst (λ (t : ScenarioData). RunWasStopped t shown_lines (ReadsLane t) (Leaves t bank tally) old new) same
-      (stopped_with s shown_lines (ReadsLane s) (ReadsLane s) (WorldStands v) (Leaves s bank tally) old new (λ n cs ls w tail bytes ends. ends)
+  pub cut_reading : (whole : ScenarioData) → s ≡ to_read whole → IsScenario s → RunsAreFair → RunWasStopped s shown_lines (ReadsLane s) (WorldStands v) old new
+      → IsRunCut Read whole old new bank tally
+  cut_reading whole same fits law stopped =
+      subst (λ (t : ScenarioData). RunWasStopped t shown_lines (ToldReads t) (Leaves t bank tally) old new) same
+      (stopped_with s shown_lines (ReadsLane s) (ToldReads s) (WorldStands v) (Leaves s bank tally) old new
+      (λ n cs ls w tail bytes ends. (ends, told_lines ls bytes (read_named s fits n cs ls w ends.0)))
       (λ n cs ls w tail ends stands. left w stands (read_fair law s n cs ls w ends.0)) stopped)
 
 -- the bytes are a scenario's

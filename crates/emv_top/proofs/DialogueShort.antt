@@ -34,7 +34,7 @@ use Rattle.restrictions.specs.Restricted.{restricted}
 use Rattle.risk_mgmt.specs.Risky.{risky}
 use Rattle.script_run.specs.Ran.{template_ran, no_script}
 use Rattle.terminal_state.specs.StepResults as step_result
-use Rattle.terminal_state.specs.StepResults.{StepResult, state_so_far, latest, sets_card}
+use Rattle.terminal_state.specs.StepResults.{StepResult, analysed_by, state_so_far, latest, sets_card}
 use Rattle.terminal_state.specs.Scripts.{templates_of_tag, kept_host_reply}
 use Rattle.terminal_state.specs.Terminal.{Outset, terminal_objects}
 use Rattle.terminal_state.specs.declared.state_so_far.OnlineRequest.{OnlineRequest}
@@ -54,7 +54,7 @@ latest_short (step_result.HasRead card ∷ steps_done) short = short.0
 latest_short (step_result.HasRestricted bits ∷ steps_done) short = latest_short steps_done short.1
 latest_short (step_result.HasVerified verified ∷ steps_done) short = latest_short steps_done short.1
 latest_short (step_result.HasJudged judged ∷ steps_done) short = latest_short steps_done short.1
-latest_short (step_result.HasAnalysed wanted ∷ steps_done) short = latest_short steps_done short.1
+latest_short (step_result.HasAnalysed analysed ∷ steps_done) short = latest_short steps_done short.1
 latest_short (step_result.HasFirst ac ∷ steps_done) short = latest_short steps_done short.1
 latest_short (step_result.HasReply reply ∷ steps_done) short = latest_short steps_done short.1
 latest_short (step_result.WasUnable request wanted ∷ steps_done) short = latest_short steps_done short.1
@@ -198,7 +198,7 @@ module _ (transaction : TransactionData) where
 
   analysis_short : (steps_done : List StepResult) → AreShort steps_done → Keeps (analysis transaction steps_done)
   unfolding analysis
-  analysis_short steps_done short = first_short (kind_wanted transaction steps_done) (step_result.HasAnalysed (kind_wanted transaction steps_done) ∷ steps_done) (tt, short)
+  analysis_short steps_done short = first_short (kind_wanted transaction steps_done) (step_result.HasAnalysed (analysed_by transaction.row (kind_wanted transaction steps_done)) ∷ steps_done) (tt, short)
 
   risk_short : (steps_done : List StepResult) → AreShort steps_done → Keeps (risk transaction steps_done)
   unfolding risk

@@ -17,6 +17,7 @@ pub mod ReadGoing
 pub mod Uncut
 pub mod Settled
 pub mod ReadStored
+pub mod ReadTold
 pub mod ReadSettled
 pub mod Fates
 pub mod Deciding

@@ -17,7 +17,7 @@ use Rattle.txn_replay.specs.Reading.{object_line}
 abbrev pub objects_text : Entries → List ℕ
 objects_text entries = text_of_lines (map object_line entries)
 
-all_entries : (entries : Entries) → entries_after None entries ≡ entries
+pub all_entries : (entries : Entries) → entries_after None entries ≡ entries
 all_entries [] = refl
 all_entries (entry ∷ entries) = ap (λ (es : Entries). entry ∷ es) (all_entries entries)
 

@@ -6,7 +6,7 @@ use Rattle.std.specs.List.{All}
 use Rattle.std.proofs.lemmas.List.Elements.{All-append, All-cons, All-head, All-nil, All-tail}
 use Rattle.emv_ports.specs.Growth.{AppendsFront}
 use Rattle.emv_top.specs.Answers.{Completes}
-use Rattle.emv_top.specs.RunsSoFar.{IsRunSoFar, RunWasStopped, Makes, MakesNone, ReadsLane, read_tail, shown_lines}
+use Rattle.emv_top.specs.RunsSoFar.{IsRunSoFar, ReadOfBytes, RunWasStopped, Makes, MakesNone, ReadsLane, read_tail, shown_lines}
 use Rattle.emv_top.specs.Input.{first_purchases}
 use Rattle.emv_top.specs.Short.{HasShortObjects}
 use Rattle.emv_top.specs.Texts.{text_of_lines}
@@ -18,7 +18,7 @@ use Rattle.report_text.specs.Told.{HasLineBytes}
 use Rattle.report_text.specs.declared.line.Line.{Line}
 use Rattle.report_text.specs.declared.line.Line.TheVariants.{End, EndLost}
 use Rattle.scenario.specs.Plan.{ScenarioData, IsScenario}
-use Rattle.txn_replay.specs.Reading.{ReadReached, turned, ReadRun, is_read, data_at, ending_at, read_lines, without_end, to_read}
+use Rattle.txn_replay.specs.Reading.{ReadReached, turned, is_read, data_at, ending_at, read_lines, without_end, to_read}
 use Rattle.txn_replay.specs.Sound.{IsWorldSound, IsIdle}
 use Rattle.txn_replay.specs.World.{World, lane_at}
 use Rattle.txn_replay.specs.declared.event.Event.TheVariants.{Turn}
@@ -89,18 +89,23 @@ module _ (s : ScenarioData) (v : WorldSeen) (told : v.scenario ≡ s) (first old
         by false is = cc
 
     pub read_whole : (whole : ScenarioData) → s ≡ to_read whole
+        → ((w : World) → WorldStands v w → All HasLineBytes (read_lines (data_at v.scenario w 0) (ending_at w 0)))
         → ((w : World) → WorldStands v w → Appends old new (text_of_lines (read_lines (data_at v.scenario w 0) (ending_at w 0))))
-        → Completes (ReadRun whole) (WorldStands v) first new
-    read_whole whole same behind =
-        completes (ReadReached s) (λ w. read_lines (data_at s w 0) (ending_at w 0)) (WorldStands v) first old new far (ReadRun whole)
-        (λ n cs ls w reached stands bytes. record {
-          count = n;
-          choices = cs;
-          reported = ls;
-          reached = subst (λ (t : ScenarioData). ReadReached t n cs ls w) same reached;
-          read = subst (λ (t : ScenarioData). is_read t w ≡ true) same (is_read_now w stands);
-          whole = subst (λ (t : ScenarioData). ls ++ read_lines (data_at s w 0) (ending_at w 0) ≡ ls ++ read_lines (data_at t w 0) (ending_at w 0)) same refl;
-        })
+        → Completes (ReadOfBytes whole) (WorldStands v) first new
+    read_whole whole same tail_bytes behind =
+        completes (ReadReached s) (λ w. read_lines (data_at s w 0) (ending_at w 0)) (WorldStands v) first old new far (ReadOfBytes whole)
+        (λ n cs ls w reached stands bytes. (
+          record {
+            count = n;
+            choices = cs;
+            reported = ls;
+            reached = subst (λ (t : ScenarioData). ReadReached t n cs ls w) same reached;
+            read = subst (λ (t : ScenarioData). is_read t w ≡ true) same (is_read_now w stands);
+            whole = subst (λ (t : ScenarioData). ls ++ read_lines (data_at s w 0) (ending_at w 0) ≡ ls ++ read_lines (data_at t w 0) (ending_at w 0)) same refl;
+          },
+          All-append HasLineBytes ls (read_lines (data_at s w 0) (ending_at w 0)) bytes
+              (subst (λ (t : ScenarioData). All HasLineBytes (read_lines (data_at t w 0) (ending_at w 0))) told (tail_bytes w stands)),
+        ))
         (subst (λ (t : ScenarioData). (w : World) → WorldStands v w → Appends old new (text_of_lines (read_lines (data_at t w 0) (ending_at w 0)))) told behind)
 
     pub read_stops : ((w : World) → WorldStands v w → AppendsFront old new (text_of_lines (read_lines (data_at v.scenario w 0) (ending_at w 0))))

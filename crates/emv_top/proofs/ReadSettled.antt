@@ -1,18 +1,23 @@
 -- In a reading no card has an open decision and none has lost its power, since nothing cuts it; and no line tells that one has.
 use Rattle.std.proofs.Common.{◌≡◌, ℕ, ◌+◌, Bool, false, cond, List, [], ◌∷◌, ◌++◌, map, Option, Some, None, refl, sym, ap, ◌∙◌, subst, arith}
-use Rattle.std.specs.List.{count_by, flat_map}
+use Rattle.std.specs.List.{All, count_by, flat_map}
+use Rattle.std.proofs.lemmas.List.Elements.{All-append}
 use Rattle.std.proofs.lemmas.List.Sums.{sum_by-append}
 use Rattle.emv_dict.specs.declared.ending.Ending.{Ending}
 use Rattle.emv_top.specs.Answers.{AreSettled, CalmReading}
+use Rattle.emv_top.proofs.LineBytes.{told_lines}
 use Rattle.emv_top.proofs.ReadStored.{read_stored}
+use Rattle.emv_top.proofs.ReadTold.{read_named, reading_named}
 use Rattle.emv_top.proofs.Uncut.{Spares, lane_card}
 use Rattle.emv_top.proofs.Untorn.{untorn_next}
 use Rattle.kernel.specs.Laws.{ReadingCapturesNothing}
 use Rattle.object_lists.specs.CardRead.{ReadCard}
+use Rattle.report_text.specs.Told.{card_named, HasLineBytes, IsCardName}
 use Rattle.report_text.specs.declared.line.Line.{Line}
 use Rattle.report_text.specs.declared.line.Line.TheVariants as line
-use Rattle.scenario.specs.Plan.{ScenarioData}
+use Rattle.scenario.specs.Plan.{ScenarioData, IsScenario}
 use Rattle.txn_replay.specs.Laws.{is_torn}
+use Rattle.txn_replay.specs.Named.{AreNamed}
 use Rattle.txn_replay.specs.Part.{Part, Moved}
 use Rattle.txn_replay.specs.Payment.{Payment, next_of}
 use Rattle.txn_replay.specs.Reading.{ReadReached, start, turned, ReadRun, is_read, to_read, data_at, ending_at, object_line, read_lines, without_end}
@@ -130,9 +135,12 @@ module _ (whole : ScenarioData) where
   reading_tells_none None None = refl
   reading_tells_none None (Some ending) = refl
 
-  pub read_calm : ReadingCapturesNothing → (ls : List Line) (w : World) → ReadRun whole ls w → CalmReading whole ls w
-  read_calm nothing ls w run = record {
+  pub read_calm : ReadingCapturesNothing → IsScenario (to_read whole) → (ls : List Line) (w : World) → ReadRun whole ls w → All HasLineBytes ls → CalmReading whole ls w
+  read_calm nothing fits ls w run bytes = record {
     run = run;
+    told = told_lines ls bytes (subst AreNamed (sym run.whole)
+        (All-append (λ (line : Line). IsCardName (card_named line)) run.reported tail
+        (read_named (to_read whole) fits run.count run.choices run.reported w run.reached) (reading_named (data_at (to_read whole) w 0) (ending_at w 0))));
     losses = λ i. (calm.0 i).1;
     untold = ap told run.whole ∙ none;
     kept = λ l. (read_stored whole nothing run.count run.choices run.reported w run.reached l).kept;

@@ -66,9 +66,15 @@ pub record Completes (runs : List Line → World → Type 0) (holds : World → 
 abbrev pub ToldReplays : ScenarioData → Ends
 ToldReplays s n choices lines w tail = Replays s n choices lines w tail × HasLosses s lines w × AreLostAsTold lines w × All IsTold lines
 
--- a card was read: no card lost its power, and no line tells that one did; no terminal lost a purchase, and each store is empty
+-- a reading that was cut: the texts of its lines tell them
+abbrev pub ToldReads : ScenarioData → Ends
+ToldReads s n choices lines w tail = ReadsLane s n choices lines w tail × All IsTold lines
+
+-- a card was read: the texts of its lines tell them, no card lost its power, and no line tells that one did; no terminal lost a
+-- purchase, and each store is empty
 pub record CalmReading (s : ScenarioData) (lines : List Line) (w : World) : Type 0 where
   pub run : ReadRun s lines w
+  pub told : All IsTold lines
   pub losses : (i : ℕ) → (card_at w i).losses ≡ 0
   pub untold : count_by is_torn lines ≡ 0
   pub kept : (l : ℕ) → lost_count (lane_at w l).ended ≡ 0
@@ -85,7 +91,7 @@ played Read s = to_read s
 played Replay s = s
 
 abbrev pub ends_of : Task → ScenarioData → Ends
-ends_of Read s = ReadsLane (to_read s)
+ends_of Read s = ToldReads (to_read s)
 ends_of Replay s = ToldReplays s
 
 abbrev pub shown_of : Task → List Line → List Line

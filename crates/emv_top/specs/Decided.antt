@@ -9,6 +9,7 @@ use Rattle.kernel.specs.Ended.{EndData}
 use Rattle.report_text.specs.Told.{IsTold}
 use Rattle.report_text.specs.declared.line.Line.{Line}
 use Rattle.scenario.specs.Plan.{ScenarioData, IsScenario}
+use Rattle.txn_replay.specs.Asking.{AreAsked}
 use Rattle.txn_replay.specs.Captured.{AreSent, AreLostAsTold}
 use Rattle.txn_replay.specs.Payment.{Payment, payment_in, dialect_of, durable_of, outset_for}
 use Rattle.txn_replay.specs.Respelled.{AreRespelled, in_dialects}
@@ -46,13 +47,15 @@ pub record RunInDialects (s : ScenarioData) (iso : ℕ → Bool) (lines : List L
   pub run : Run (in_dialects iso s) others w
   pub respelled : AreRespelled (dialect_of s) (dialect_of (in_dialects iso s)) lines others
 
--- a whole run: its purchases are decided, the texts of its lines tell them, its lines tell how often each card lost its power
--- and each terminal a purchase, in other dialects of its lanes it differs in the spelling of messages and replies alone, each store has sent its captures and
--- is empty, and a lane that shares no card and no account with others ran as if it were alone
+-- a whole run: its purchases are decided, the texts of its lines tell them, each command in them is what the dialogue asks
+-- there and the line behind it its answer, they tell how often each card lost its power and each terminal a purchase, in other
+-- dialects of its lanes it differs in the spelling of messages and replies alone, each store has sent its captures and is empty,
+-- and a lane that shares no card and no account with others ran as if it were alone
 pub record DecidedRun (s : ScenarioData) (lines : List Line) (w : World) : Type 0 where
   pub run : Run s lines w
   pub decided : AreDecided s w
   pub told : All IsTold lines
+  pub commands : AreAsked s lines
   pub losses : HasLosses s lines w
   pub lost : AreLostAsTold lines w
   pub dialects : (iso : ℕ → Bool) → RunInDialects s iso lines w

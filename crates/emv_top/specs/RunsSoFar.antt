@@ -10,7 +10,7 @@ use Rattle.emv_top.specs.declared.stop.Stop.{Stop}
 use Rattle.report_text.specs.Told.{HasLineBytes}
 use Rattle.report_text.specs.declared.line.Line.{Line}
 use Rattle.scenario.specs.Plan.{ScenarioData, IsScenario}
-use Rattle.txn_replay.specs.Reading.{ReadReached, is_read, data_at, ending_at, read_lines, without_end}
+use Rattle.txn_replay.specs.Reading.{ReadReached, ReadRun, is_read, data_at, ending_at, read_lines, without_end}
 use Rattle.txn_replay.specs.Run.{RunPlace, Scheduled, Round, Settling, Auditing, Finished, Reached, Run, closing}
 use Rattle.txn_replay.specs.Steps.{Settlement, Check, settlements, checks, Step}
 use Rattle.txn_replay.specs.World.{World}
@@ -40,6 +40,10 @@ Replays s n choices lines w tail = (place : RunPlace) × Reached s place n choic
 -- a whole run whose lines have bytes that are bytes
 abbrev pub RunOfBytes : ScenarioData → List Line → World → Type 0
 RunOfBytes s lines w = Run s lines w × All HasLineBytes lines
+
+-- a whole reading whose lines have bytes that are bytes
+abbrev pub ReadOfBytes : ScenarioData → List Line → World → Type 0
+ReadOfBytes s lines w = ReadRun s lines w × All HasLineBytes lines
 
 -- the lines behind a reading's events
 abbrev pub read_tail : ScenarioData → World → List Line

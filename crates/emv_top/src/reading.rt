@@ -1,16 +1,19 @@
 //! The reading of a card, and its data objects line by line.
 ghost use Rattle.std.specs.Prelude.{◌≡◌, ◌≤◌, ◌<◌, ℕ, List, ◌∷◌, [], ◌++◌, length, map, OnOk, OnErr, IfSome};
+ghost use Rattle.std.specs.List.{All};
 ghost use Rattle.std.specs.Io.KnownBytes.{Appends};
+ghost use Rattle.ber_tlv.specs.Item.{AreBytes};
 ghost use Rattle.emv_ports.specs.Growth.{AppendsFront};
 ghost use Rattle.emv_top.specs.Answers.{Completes};
-ghost use Rattle.emv_top.specs.RunsSoFar.{IsPlayed, ReadsLane, RunWasStopped, shown_lines};
+ghost use Rattle.emv_top.specs.RunsSoFar.{IsPlayed, ReadOfBytes, ReadsLane, RunWasStopped, shown_lines};
 ghost use Rattle.emv_top.specs.Input.{first_purchases};
 ghost use Rattle.emv_top.specs.Short.{AllShort, HasShortObjects};
 ghost use Rattle.emv_top.specs.Stops.{Emits, HasStop};
 ghost use Rattle.emv_top.specs.Texts.{text_of_lines};
 ghost use Rattle.report_text.specs.Text.{line_text};
+ghost use Rattle.report_text.specs.Told.{HasLineBytes, IsEndingTold};
 ghost use Rattle.scenario.specs.Plan.{ScenarioData};
-ghost use Rattle.txn_replay.specs.Reading.{ReadRun, is_read, data_at, ending_at, read_lines, object_line, to_read};
+ghost use Rattle.txn_replay.specs.Reading.{is_read, data_at, ending_at, read_lines, object_line, to_read};
 ghost use Rattle.txn_replay.specs.World.{World as Told, first_world};
 ghost use Rattle.txn_replay.specs.Seen.{WorldStands};
 
@@ -19,6 +22,7 @@ use crate::lines::{EventBuffers, emit};
 use crate::stop::Stop;
 use arrayvec::ArrayVec;
 use ber_tlv::Tag;
+use emv_dict::{Cause, Ending};
 use emv_ports::{Pages, Sink};
 use env_map::Env;
 use object_lists::CardData;
@@ -105,6 +109,48 @@ fn write_reading<P: Pages, K: Sink>(
     }
 }
 
+/// Bytes are below 256.
+fn bytes_fit(bytes: &[u8])
+    ensures { AreBytes bytes.now }
+{
+    let _count = bytes.len();
+}
+
+/// What a cause names is a byte.
+fn ending_fits(ending: Ending)
+    ensures { IsEndingTold ending }
+{
+    match ending {
+        Ending::Terminated(_, Cause::Kind(information)) => bytes_fit(&[information]),
+        _ => {}
+    }
+}
+
+/// The values of data objects are bytes.
+fn values_fit(env: &Env)
+    ensures { All (λ entry. AreBytes entry.1) env.now }
+{
+    let mut last = None;
+    while let Some((tag, value)) = env.after(last) {
+        bytes_fit(value);
+        last = Some(tag);
+    }
+}
+
+/// The bytes of the lines behind the events of a reading are bytes.
+fn reading_fits<P: Pages>(world: &World<'_, P>)
+    requires { 0 < length world.now.scenario.lanes }
+    ensures { (w : Told) → WorldStands world.now w → All HasLineBytes (read_lines (data_at world.now.scenario w 0) (ending_at w 0)) }
+{
+    match world.read_data(0) {
+        Some(card) => values_fit(card.env()),
+        None => match world.ending(0) {
+            Some(ending) => ending_fits(ending),
+            None => {}
+        },
+    }
+}
+
 /// Whether reading is finished, or the purchase has ended.
 fn is_read<P: Pages>(world: &World<'_, P>) -> bool
     requires { 0 < length world.now.scenario.lanes }
@@ -124,7 +170,7 @@ pub fn read_through<P: Pages, K: Sink>(
     requires untorn { (s : ScenarioData) × (scenario.now ≡ to_read s) }
     requires start { WorldStands world.old (first_world scenario.now) }
     ensures ok { OnOk result ((s : ScenarioData) → scenario.now ≡ to_read s
-        → Completes (ReadRun s) (WorldStands world.new) (K.held sink.old) (K.held sink.new)) }
+        → Completes (ReadOfBytes s) (WorldStands world.new) (K.held sink.old) (K.held sink.new)) }
     ensures err { OnErr result (RunWasStopped scenario.now shown_lines (ReadsLane scenario.now) (WorldStands world.new) (K.held sink.old) (K.held sink.new)) }
     ensures told { world.new.scenario ≡ scenario.now }
     ensures stop { HasStop (K.faults sink.old) (K.faults sink.new) result }
@@ -136,5 +182,6 @@ pub fn read_through<P: Pages, K: Sink>(
             Err(stop) => return Err(stop),
         }
     }
+    reading_fits(world);
     write_reading(world, &mut room.text, sink)
 }

@@ -25,8 +25,8 @@ use emv_ports::{Pages, Sink};
 use scenario::Scenario;
 use std::alloc::Global;
 use txn_replay::{
-    NoWorld, World, captures_are_sent, cards_are_named, dialects_show, lanes_stand_alone,
-    losses_are_told, runs_are_fair, stores_are_emptied,
+    NoWorld, World, captures_are_sent, cards_are_named, commands_are_told, dialects_show,
+    lanes_stand_alone, losses_are_told, runs_are_fair, stores_are_emptied,
 };
 
 /// The turns of the schedule.
@@ -193,6 +193,7 @@ pub fn replay_whole<'s, P: Pages, K: Sink>(
     runs_are_fair();
     runs_are_decided();
     cards_are_named();
+    commands_are_told();
     losses_are_told();
     dialects_show();
     captures_are_sent();

@@ -169,7 +169,7 @@ module _ (s : ScenarioData) (fits : IsScenario s) (w : World) (choices : List Bo
   audit_named k (Some (Asks i card command)) is =
       two_lines _ _ (check_plain s fits k (Asks i card command) is) (check_plain s fits k (Asks i card command) is)
 
-  event_named : (e : Event) → AreNamed (happens s w e choices).lines
+  pub event_named : (e : Event) → AreNamed (happens s w e choices).lines
   event_named (Turn l) = turn_named l (next_of s w l) refl
   event_named (Settle k) = settle_named (slice_get (settlements s w) k)
   event_named (Audit k) = audit_named k (slice_get (checks s) k) refl

@@ -41,7 +41,7 @@ pub returns-clause-ok : goal.returns-clause-ok
 returns-clause-ok g c =
     on_ok_weaker c.write_reading.result
     (λ behind. λ whole same.
-    read_whole c.args.scenario.now c.loop-world.world c.loop-world.invariant.told _ _ _ c.loop-world.invariant.far c.loop-world-test.ensures whole same behind)
+    read_whole c.args.scenario.now c.loop-world.world c.loop-world.invariant.told _ _ _ c.loop-world.invariant.far c.loop-world-test.ensures whole same c.reading_fits.ensures behind)
     c.write_reading.ensures.all
 
 pub returns-clause-err : goal.returns-clause-err

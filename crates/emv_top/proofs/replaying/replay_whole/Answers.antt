@@ -8,7 +8,7 @@ use Rattle.emv_top.proofs.replaying.replay_whole.Goals as goal
 pub returns-in-Ok-replay_through-clause-whole : goal.returns-in-Ok-replay_through-clause-whole
 returns-in-Ok-replay_through-clause-whole g c =
     decided_whole c.args.scenario.now c.replay_through.new.world _ _ c.runs_are_fair.ensures.whole c.runs_are_decided.ensures
-    c.cards_are_named.ensures.whole c.losses_are_told.ensures.whole c.captures_are_sent.ensures.lost_whole c.dialects_show.ensures.whole c.captures_are_sent.ensures.sent
+    c.cards_are_named.ensures.whole c.commands_are_told.ensures.whole c.losses_are_told.ensures.whole c.captures_are_sent.ensures.lost_whole c.dialects_show.ensures.whole c.captures_are_sent.ensures.sent
     c.stores_are_emptied.ensures.emptied c.lanes_stand_alone.ensures.alone c.made_messages.ensures c.requires.rules
     c.in-Ok-replay_through.ensures.ok
 

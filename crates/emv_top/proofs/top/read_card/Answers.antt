@@ -15,7 +15,7 @@ returns-in-Ok-read_through g c =
     → Plays Read s (g.K.Sink.held c.args.sink.now) (g.K.Sink.held c.read_through.new.sink) c.end_world.result.bank c.end_world.result.tally status)
     (g.K.Sink.faults c.args.sink.now) (g.K.Sink.faults c.read_through.new.sink) st) (sym c.end_world.ensures.status)
     (record {
-      told = λ s same. whole_reading c.args.scenario.now c.read_through.new.world c.read_through.ensures.told _ _ _ _ c.end_world.ensures.leaves s same c.runs_are_fair.ensures.reached c.reading_captures_nothing.ensures (c.in-Ok-read_through.ensures.ok s same);
+      told = λ s same. whole_reading c.args.scenario.now c.read_through.new.world c.read_through.ensures.told _ _ _ _ c.end_world.ensures.leaves s same c.requires.rules c.runs_are_fair.ensures.reached c.reading_captures_nothing.ensures (c.in-Ok-read_through.ensures.ok s same);
       count = c.in-Ok-read_through.ensures.stop;
     })
 
@@ -26,7 +26,7 @@ returns-in-Err-Sink g c =
     → Plays Read s (g.K.Sink.held c.args.sink.now) (g.K.Sink.held c.read_through.new.sink) c.end_world-in-Err-Sink.result.bank c.end_world-in-Err-Sink.result.tally status)
     (g.K.Sink.faults c.args.sink.now) (g.K.Sink.faults c.read_through.new.sink) st) (sym c.end_world-in-Err-Sink.ensures.status)
     (record {
-      told = λ s same. cut_reading c.args.scenario.now c.read_through.new.world c.read_through.ensures.told _ _ _ _ c.end_world-in-Err-Sink.ensures.leaves s same c.runs_are_fair.ensures.reached c.in-Err-Sink.ensures.err;
+      told = λ s same. cut_reading c.args.scenario.now c.read_through.new.world c.read_through.ensures.told _ _ _ _ c.end_world-in-Err-Sink.ensures.leaves s same c.requires.rules c.runs_are_fair.ensures.reached c.in-Err-Sink.ensures.err;
       count = search rules;
     })
 
@@ -37,6 +37,6 @@ returns-in-Err-OutOfMemory g c =
     → Plays Read s (g.K.Sink.held c.args.sink.now) (g.K.Sink.held c.read_through.new.sink) c.end_world-in-Err-OutOfMemory.result.bank c.end_world-in-Err-OutOfMemory.result.tally status)
     (g.K.Sink.faults c.args.sink.now) (g.K.Sink.faults c.read_through.new.sink) st) (sym c.end_world-in-Err-OutOfMemory.ensures.status)
     (record {
-      told = λ s same. inr (cut_reading c.args.scenario.now c.read_through.new.world c.read_through.ensures.told _ _ _ _ c.end_world-in-Err-OutOfMemory.ensures.leaves s same c.runs_are_fair.ensures.reached c.in-Err-OutOfMemory.ensures.err);
+      told = λ s same. inr (cut_reading c.args.scenario.now c.read_through.new.world c.read_through.ensures.told _ _ _ _ c.end_world-in-Err-OutOfMemory.ensures.leaves s same c.requires.rules c.runs_are_fair.ensures.reached c.in-Err-OutOfMemory.ensures.err);
       count = search rules;
     })
