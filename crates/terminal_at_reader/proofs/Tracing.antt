@@ -7,12 +7,10 @@ use Rattle.std.specs.Io.KnownBytes.{Appends, Consumes}
 use Rattle.std.specs.List.{flat_map}
 use Rattle.std.specs.Prelude.{option_to_list}
 use Rattle.std.specs.Str.{bytes_eq}
-use Rattle.emv_dict.specs.declared.ending.Ending.{Ending}
 use Rattle.emv_dict.specs.declared.purchase.Logged.{Logged}
 use Rattle.kernel.specs.Dialogue.{dialogue}
 use Rattle.kernel.specs.EndShown.{EndShown}
-use Rattle.kernel.specs.Reply.{Reply, Deed}
-use Rattle.kernel.specs.Reply as deeds
+use Rattle.kernel.specs.Reply.{Reply}
 use Rattle.line_talk.proofs.Talking.{onward_more}
 use Rattle.line_talk.specs.Coming.{Comes}
 use Rattle.line_talk.specs.Talk as talk
@@ -38,10 +36,11 @@ use Rattle.trace_check.specs.declared.entry.Entry.{Entry}
 use Rattle.terminal_at_reader.proofs.Entries.{ask_unheard, over_of}
 use Rattle.terminal_at_reader.specs.Document.{ReadsTerminal}
 use Rattle.terminal_at_reader.specs.Hearing.{fault_line, understood, unread}
+use Rattle.ask_reasons.specs.QuestionText.{question_text}
 use Rattle.terminal_at_reader.specs.Settlement.{settlement_reply}
-use Rattle.terminal_at_reader.specs.Talk.{AreEntries, Doing, IsTerminalTalk, Pays, Rests, Settles, TerminalTalked, TerminalTurn, ask_at, asked_line, asked_turn, asks, asks_again, begins, end_shown_at, first_turn, goes, goes_on, next_line, next_turn, other_turn, outset_of_planned, paying_turn, reply_if_entry, resting_turn, settle_line, settlement_turn, settling_turn, terminal_opening, terminal_turn, told_of, turn_at, turn_by_end, turn_if_captured, turn_if_planned, turn_if_reply, turn_with, want_line}
-use Rattle.terminal_at_reader.specs.Till.{TillData, approval_logged, new_till, till_ended}
-use Rattle.terminal_at_reader.specs.Top.{ArePaid, HadDialogues, IsPaid, between, paid, replies_heard, terminal_programme, unpaid, written_last}
+use Rattle.terminal_at_reader.specs.Talk.{AreEntries, Doing, Pays, Rests, Settles, TerminalTalked, TerminalTurn, ask_at, asked_line, asked_turn, asks, asks_again, asks_why, begins, end_shown_at, first_turn, goes, goes_on, next_line, next_turn, other_turn, outset_of_planned, paying_turn, question_decided, replies_heard, reply_if_entry, resting_turn, settle_line, settlement_turn, settling_turn, terminal_opening, terminal_turn, told_of, turn_at, turn_by_end, turn_if_captured, turn_if_planned, turn_if_reply, turn_with, want_line, why_line, why_turn}
+use Rattle.terminal_at_reader.specs.Till.{TillData, approval_logged, new_till}
+use Rattle.terminal_at_reader.specs.Top.{ArePaid, HadDialogues, IsPaid, between, paid, terminal_programme, unpaid, written_last}
 
 -- what was written last
 written_more : (first : List ℕ) (turns : List Turn) (one : Turn) → written_last first (turns ++ one ∷ []) ≡ one.answer
@@ -93,7 +92,7 @@ module _ (iso : Bool) (log : List Logged) (outset : Outset) where
   record AsExchanges (first : List ℕ) (turns : List Turn) (replies : List Reply) : Type 0 where
     entries : List Entry
     exchanges : Exchanges replies entries
-    are : AreEntries iso first turns (entries ++ ask_at outset replies ∷ [])
+    are : AreEntries iso log outset first turns (entries ++ ask_at outset replies ∷ [])
 
   module _ (first : List ℕ) (turns : List Turn) (replies : List Reply) (till : TillData) (line : List ℕ) (far : AsExchanges first turns replies) where
     -- one more reply was taken
@@ -108,7 +107,7 @@ module _ (iso : Bool) (log : List Logged) (outset : Outset) where
           entries = far.entries ++ ask ∷ understood iso said ∷ [];
           exchanges = more replies far.entries far.exchanges (understood iso said) reply heard awaited;
           are =
-              subst (λ (es : List Entry). AreEntries iso first (turns ++ one ∷ []) es)
+              subst (λ (es : List Entry). AreEntries iso log outset first (turns ++ one ∷ []) es)
               (append_assoc far.entries (ask ∷ []) (understood iso said ∷ later ∷ []) ∙ sym (append_assoc far.entries (ask ∷ understood iso said ∷ []) (later ∷ [])))
               (goes_on turns (far.entries ++ ask ∷ []) said later one far.are (says ∙ (text_is line said is).0) answers);
         }
@@ -120,6 +119,20 @@ module _ (iso : Bool) (log : List Logged) (outset : Outset) where
       exchanges = far.exchanges;
       are = asks_again turns far.entries (ask_at outset replies) one far.are (says ∙ (bytes_eq-Decides line want_line).0 is) answers;
     }
+
+    -- it was asked why the last question is of its kind
+    told_why : (one : Turn) → bytes_eq line why_line ≡ true → one.line ≡ line → one.answer ≡ question_text (question_decided outset replies)
+        → AsExchanges first (turns ++ one ∷ []) replies
+    told_why one is says answers =
+        let ask = ask_at outset replies in
+        let heard : replies_heard log (far.entries ++ ask ∷ []) ≡ replies = heard_all replies far.entries far.exchanges ask (none_heard replies) in
+        record {
+          entries = far.entries;
+          exchanges = far.exchanges;
+          are =
+              asks_why turns (far.entries ++ ask ∷ []) one far.are (says ∙ (bytes_eq-Decides line why_line).0 is)
+              (answers ∙ ap (λ (r : List Reply). question_text (question_decided outset r)) (sym heard));
+        }
 
 -- how the talk goes on where the terminal is at this
 abbrev onward_for : Doing → Onward
@@ -174,7 +187,7 @@ module _ (lane : LaneData) where
       (subst (λ (d : Outset). IsDialogue [] d [] all) runs.outset_is (subst (λ (l : List Logged). IsDialogue l outset [] all) empty is)) in
       let one : IsPaid lane runs.planned till.log (written_last first_written runs.before) runs.mine end = record {
         entries = all;
-        are = far.are;
+        are = subst (λ (d : Outset). AreEntries lane.iso till.log d (written_last first_written runs.before) runs.mine all) runs.outset_is far.are;
         whole = subst (λ (d : Outset). IsDialogue till.log d [] all) runs.outset_is dialogue_is;
         ends = subst (λ (d : Outset). end_shown_at d (replies_heard till.log all) ≡ Some end) runs.outset_is ends;
         same = λ empty. of_first till.log empty dialogue_is;
@@ -258,10 +271,25 @@ module _ (lane : LaneData) where
     by_entry None is may = absurd (may refl)
     by_entry (Some said) is may = by_reply said is (reply_with_log till.log (understood lane.iso said)) refl may
 
+    by_why : bytes_eq line why_line ≡ true → GoesBy (why_turn way.Awaits (Pays outset replies) till (question_decided outset replies))
+    by_why is may =
+        let one : Turn = turn_at line (why_turn way.Awaits (Pays outset replies) till (question_decided outset replies)) in
+        record {
+          onward_is = refl;
+          came =
+              more_of one replies
+              (told_why lane.iso till.log outset (written_last first_written runs.before) runs.mine replies till line runs.exchanges one is refl refl);
+        }
+
+    by_other : (test : Bool) → bytes_eq line why_line ≡ test
+        → GoesBy (if test then why_turn way.Awaits (Pays outset replies) till (question_decided outset replies) else turn_with lane.iso outset replies till (told_of lane.iso (entry_of_text line)) (reply_if_entry lane.iso till.log (entry_of_text line)))
+    by_other true is may = by_why is may
+    by_other false other may = by_entry (entry_of_text line) refl may
+
     by_line : (test : Bool) → bytes_eq line want_line ≡ test
-        → GoesBy (if test then asked_turn lane.iso outset replies till [] else turn_with lane.iso outset replies till (told_of lane.iso (entry_of_text line)) (reply_if_entry lane.iso till.log (entry_of_text line)))
+        → GoesBy (if test then asked_turn lane.iso outset replies till [] else if bytes_eq line why_line then why_turn way.Awaits (Pays outset replies) till (question_decided outset replies) else turn_with lane.iso outset replies till (told_of lane.iso (entry_of_text line)) (reply_if_entry lane.iso till.log (entry_of_text line)))
     by_line true is may = by_want is may
-    by_line false other may = by_entry (entry_of_text line) refl may
+    by_line false other may = by_other (bytes_eq line why_line) refl may
 
     in_purchase : GoesBy (paying_turn lane.iso outset replies till line)
     unfolding paying_turn
@@ -309,30 +337,39 @@ module _ (lane : LaneData) where
     by_captured answered told None = record { onward_is = refl; came = aside (turn_at line (turn_if_captured lane.iso till answered told None)) }
     by_captured answered told (Some message) = record { onward_is = refl; came = aside (turn_at line (turn_if_captured lane.iso till answered told (Some message))) }
 
-    by_settle : (test : Bool) → GoesAside (if test then settlement_turn lane.iso till 0 [] else other_turn way.Rests Rests till)
-    by_settle true = by_captured 0 [] (slice_get till.captures 0)
-    by_settle false = rests_on
+    by_why_asked : (test : Bool) → GoesAside (if test then why_turn way.Rests Rests till till.question else other_turn way.Rests Rests till)
+    by_why_asked true = record { onward_is = refl; came = aside (turn_at line (why_turn way.Rests Rests till till.question)) }
+    by_why_asked false = rests_on
 
-    by_next : (test other : Bool)
-        → GoesAside (if test then next_turn lane till else if other then settlement_turn lane.iso till 0 [] else other_turn way.Rests Rests till)
-    by_next true other = by_planned (slice_get lane.purchases till.begun) refl
-    by_next false other = by_settle other
+    by_settle : (test why : Bool)
+        → GoesAside (if test then settlement_turn lane.iso till 0 [] else if why then why_turn way.Rests Rests till till.question else other_turn way.Rests Rests till)
+    by_settle true why = by_captured 0 [] (slice_get till.captures 0)
+    by_settle false why = by_why_asked why
+
+    by_next : (test other why : Bool)
+        → GoesAside (if test then next_turn lane till else if other then settlement_turn lane.iso till 0 [] else if why then why_turn way.Rests Rests till till.question else other_turn way.Rests Rests till)
+    by_next true other why = by_planned (slice_get lane.purchases till.begun) refl
+    by_next false other why = by_settle other why
 
     at_rest : GoesAside (resting_turn lane till line)
     unfolding resting_turn
-    at_rest = by_next (bytes_eq line next_line) (bytes_eq line settle_line)
+    at_rest = by_next (bytes_eq line next_line) (bytes_eq line settle_line) (bytes_eq line why_line)
 
     by_said : (answered : ℕ) (reply : Option (List ℕ)) → Goes (turns ++ turn_at line (turn_if_reply lane.iso till answered reply) ∷ []) (turn_if_reply lane.iso till answered reply)
     by_said answered None may = absurd (may refl)
     by_said answered (Some reply) may = by_captured (answered + 1) _ (slice_get till.captures (answered + 1))
 
-    by_wanted : (answered : ℕ) (test : Bool) → (let turn : TerminalTurn = (if test then settlement_turn lane.iso till answered [] else turn_if_reply lane.iso till answered (settlement_reply line)) in Goes (turns ++ turn_at line turn ∷ []) turn)
-    by_wanted answered true may = by_captured answered [] (slice_get till.captures answered)
-    by_wanted answered false may = by_said answered (settlement_reply line) may
+    by_why_wanted : (answered : ℕ) (test : Bool) → (let turn : TerminalTurn = (if test then why_turn way.Awaits (Settles answered) till till.question else turn_if_reply lane.iso till answered (settlement_reply line)) in Goes (turns ++ turn_at line turn ∷ []) turn)
+    by_why_wanted answered true may = record { onward_is = refl; came = aside (turn_at line (why_turn way.Awaits (Settles answered) till till.question)) }
+    by_why_wanted answered false may = by_said answered (settlement_reply line) may
+
+    by_wanted : (answered : ℕ) (test why : Bool) → (let turn : TerminalTurn = (if test then settlement_turn lane.iso till answered [] else if why then why_turn way.Awaits (Settles answered) till till.question else turn_if_reply lane.iso till answered (settlement_reply line)) in Goes (turns ++ turn_at line turn ∷ []) turn)
+    by_wanted answered true why may = by_captured answered [] (slice_get till.captures answered)
+    by_wanted answered false why may = by_why_wanted answered why may
 
     in_settlement : (answered : ℕ) → Goes (turns ++ turn_at line (settling_turn lane.iso till answered line) ∷ []) (settling_turn lane.iso till answered line)
     unfolding settling_turn
-    in_settlement answered may = by_wanted answered (bytes_eq line want_line) may
+    in_settlement answered may = by_wanted answered (bytes_eq line want_line) (bytes_eq line why_line) may
 
   -- before the first line
   at_first : (planned : Option Planned) → slice_get lane.purchases 0 ≡ planned → (turn : TerminalTurn) → turn_if_planned lane new_till planned ≡ turn

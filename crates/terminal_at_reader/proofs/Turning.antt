@@ -15,7 +15,7 @@ use Rattle.kernel.specs.Reply.{Reply}
 use Rattle.kernel.specs.declared.kernel.Next.TheVariants as next
 use Rattle.line_talk.proofs.Talking.{onward_more}
 use Rattle.line_talk.specs.Talk.{other_line}
-use Rattle.line_talk.specs.Turns.{GoesOn, IsSameParty, Opening, Turn, onward_behind}
+use Rattle.line_talk.specs.Turns.{GoesOn, Opening, Turn, onward_behind}
 use Rattle.line_talk.specs.declared.party.Onward.{Onward}
 use Rattle.line_talk.specs.declared.party.Onward.TheVariants as way
 use Rattle.scenario_lanes.specs.Plan.{IsLane, IsPlanned, LaneData}
@@ -29,10 +29,12 @@ use Rattle.trace_check.specs.declared.entry.Entry.TheVariants as entries
 use Rattle.terminal_at_reader.proofs.Entries.{no_end, told_end}
 use Rattle.terminal_at_reader.specs.Document.{most_purchases}
 use Rattle.terminal_at_reader.specs.Hearing.{fault_line, understood, unread}
-use Rattle.terminal_at_reader.specs.Settlement.{settled_line, settlement_line, settlement_reply, settlement_unread}
-use Rattle.terminal_at_reader.specs.Talk.{Doing, HasAmounts, HasAskedSo, HasOpened, IsDoing, IsLive, IsPaying, IsSettling, IsTerminalTalk, IsTurnOf, Pays, Rests, Settles, TerminalTalked, TerminalTurn, WorksAt, asked_line, asked_turn, begins, end_shown_at, goes, line_of, next_line, next_turn, other_turn, outset_of_planned, paying_turn, resting_turn, settle_line, settlement_turn, settling_turn, terminal_opening, terminal_turn, turn_at, turn_by_end, turn_if_captured, turn_if_planned, turn_if_reply, turn_with, want_line}
+use Rattle.ask_reasons.specs.LastQuestion.{question_behind}
+use Rattle.ask_reasons.specs.QuestionText.{question_text}
+use Rattle.terminal_at_reader.specs.Settlement.{settled_line, settlement_line, settlement_reply}
+use Rattle.terminal_at_reader.specs.Talk.{Doing, HasAmounts, HasAskedSo, HasOpened, IsPaying, IsTurnOf, Pays, Rests, Settles, TerminalTalked, TerminalTurn, WorksAt, asked_line, asked_turn, begins, end_shown_at, goes, line_of, next_line, next_turn, other_turn, outset_of_planned, paying_turn, question_decided, resting_turn, settle_line, settlement_turn, settling_turn, terminal_opening, terminal_turn, turn_by_end, turn_if_captured, turn_if_planned, turn_if_reply, turn_with, want_line, why_line, why_turn}
 use Rattle.terminal_at_reader.specs.Till.{TillData, new_till, till_ended}
-use Rattle.terminal_at_reader.specs.declared.work.Phase.{Phase}
+use Rattle.ask_reasons.specs.declared.question.Question.{Question}
 use Rattle.terminal_at_reader.specs.declared.work.Phase.TheVariants as phase
 use Rattle.terminal_at_reader.specs.declared.work.Work.{Work}
 
@@ -67,16 +69,31 @@ awaits_turn iso work outset replies told text paying amounts waits stands asks =
       works = λ may. record { till_is = refl; does = paying; amounts = amounts };
     }
 
+-- the last question of the purchase that runs
+pub decided_is : (work : Work) (outset : Outset) (replies : List Reply) (question : Option Question) → IsPaying work outset replies
+    → question ≡ question_behind work.terminal_type (dialogue (outset_in work.kernel) replies).steps_done → question ≡ question_decided outset replies
+decided_is work outset replies question paying is =
+    is ∙ ap (λ (n : ℕ). question_behind n (dialogue (outset_in work.kernel) replies).steps_done) paying.type_is
+    ∙ ap (λ (d : Outset). question_behind outset.settings.kind (dialogue d replies).steps_done) paying.live.outset_is
+
+-- what the last question rests on was told
+pub why_told : (work : Work) (text : List ℕ) (onward after : Onward) (doing : Doing) (till : TillData) (question : Option Question) → text ≡ question_text question
+    → onward ≡ after → WorksAt work doing till → IsTurnOf work text onward (why_turn after doing till question)
+why_told work text onward after doing till question told stays works = record { answer_is = told; onward_is = stays; works = λ may. works }
+
 -- a purchase that has ended
-pub ends_turn : (iso : Bool) (old new : Work) (outset : Outset) (replies : List Reply) (told text : List ℕ) (end : EndShown) → IsPaying old outset replies
+pub ends_turn : (iso : Bool) (old new : Work) (outset : Outset) (replies : List Reply) (told text : List ℕ) (end : EndShown) (question : Option Question) → IsPaying old outset replies
     → option_map shown_end (end_of (outset_in old.kernel) (dialogue (outset_in old.kernel) replies)) ≡ Some end → text ≡ told ++ line_of (entries.End (end_text end))
-    → new.phase ≡ phase.Rests → new.till ≡ till_ended old.amount end old.till → HasAmounts new.till.log
+    → new.phase ≡ phase.Rests → question ≡ question_behind old.terminal_type (dialogue (outset_in old.kernel) replies).steps_done
+    → new.till ≡ till_ended old.amount end question old.till → HasAmounts new.till.log
     → IsTurnOf new text way.Rests (asked_turn iso outset replies old.till told)
-ends_turn iso old new outset replies told text end paying ended tells rests kept amounts =
+ends_turn iso old new outset replies told text end question paying ended tells rests asked kept amounts =
     let at = dialogue outset replies in
     let shown : end_shown_at outset replies ≡ Some end =
     ap (λ (d : Outset). option_map shown_end (end_of d (dialogue d replies))) (sym paying.live.outset_is) ∙ ended in
-    let kept_so : new.till ≡ till_ended outset.purchase.amount end old.till = kept ∙ ap (λ (a : ℕ). till_ended a end old.till) paying.amount_is in
+    let kept_so : new.till ≡ till_ended outset.purchase.amount end (question_decided outset replies) old.till =
+    kept ∙ ap (λ (a : ℕ). till_ended a end question old.till) paying.amount_is
+    ∙ ap (λ (q : Option Question). till_ended outset.purchase.amount end q old.till) (decided_is old outset replies question paying asked) in
     subst (λ (e : Option EndShown). IsTurnOf new text way.Rests (turn_by_end outset replies old.till (told ++ asked_line iso outset replies) e)) (sym shown)
     record {
       answer_is = tells ∙ ap (λ (l : List ℕ). told ++ l) (told_end iso outset at.steps_done at.deed end shown);
@@ -101,10 +118,22 @@ module _ (iso : Bool) (outset : Outset) (replies : List Reply) (till : TillData)
       → Behind work text onward
   wanted is work text onward so = behind_by (asked_turn iso outset replies till []) (wanted_is is) work text onward so
 
-  module _ (unwanted : bytes_eq line want_line ≡ false) where
+  -- the line that asks why
+  why_is : bytes_eq line want_line ≡ false → bytes_eq line why_line ≡ true
+      → paying_turn iso outset replies till line ≡ why_turn way.Awaits (Pays outset replies) till (question_decided outset replies)
+  unfolding paying_turn
+  why_is unwanted is = rw (unwanted, is) refl
+
+  pub asked_why : bytes_eq line want_line ≡ false → bytes_eq line why_line ≡ true → (work : Work) (text : List ℕ) (onward : Onward)
+      → text ≡ question_text (question_decided outset replies) → onward ≡ way.Awaits → WorksAt work (Pays outset replies) till → Behind work text onward
+  asked_why unwanted is work text onward told stays works =
+      behind_by (why_turn way.Awaits (Pays outset replies) till (question_decided outset replies)) (why_is unwanted is) work text onward
+      (why_told work text onward way.Awaits (Pays outset replies) till (question_decided outset replies) told stays works)
+
+  module _ (unwanted : bytes_eq line want_line ≡ false) (unasked : bytes_eq line why_line ≡ false) where
     none_is : entry_of_text line ≡ None → paying_turn iso outset replies till line ≡ other_turn way.Stuck (Pays outset replies) till
     unfolding paying_turn
-    none_is none = rw (unwanted, none) refl
+    none_is none = rw (unwanted, unasked, none) refl
 
     -- no entry
     pub none_read : entry_of_text line ≡ None → (work : Work) (text : List ℕ) (onward : Onward) → text ≡ other_line → onward ≡ way.Stuck → Behind work text onward
@@ -115,7 +144,7 @@ module _ (iso : Bool) (outset : Outset) (replies : List Reply) (till : TillData)
       by_reply : (reply : Option Reply) → reply_with_log till.log (understood iso said) ≡ reply
           → paying_turn iso outset replies till line ≡ turn_with iso outset replies till (fault_line (unread iso said)) reply
       unfolding paying_turn
-      by_reply reply heard = rw (unwanted, is, heard) refl
+      by_reply reply heard = rw (unwanted, unasked, is, heard) refl
 
       module _ (mid : KernelData) (entry : Entry) (entry_is : entry ≡ understood iso said) where
         abbrev TakenSo : Bool → Type 0
@@ -168,11 +197,12 @@ taken_as work outset replies paying mid entry seen log same found wanted_is is t
 
 -- a purchase goes on behind one more reply
 pub paying_more : (old new : Work) (outset : Outset) (replies later : List Reply) → IsPaying old outset replies → new.phase ≡ old.phase → new.amount ≡ old.amount
-    → outset_in new.kernel ≡ outset_in old.kernel → new.kernel.is_spent ≡ false → KernelStands new.kernel later → IsPaying new outset later
-paying_more old new outset replies later paying phase_same amount_same outset_same fresh stands = record {
+    → new.terminal_type ≡ old.terminal_type → outset_in new.kernel ≡ outset_in old.kernel → new.kernel.is_spent ≡ false → KernelStands new.kernel later → IsPaying new outset later
+paying_more old new outset replies later paying phase_same amount_same type_same outset_same fresh stands = record {
   phase_is = phase_same ∙ paying.phase_is;
   live = record { outset_is = outset_same ∙ paying.live.outset_is; stands = stands; fresh = fresh };
   amount_is = amount_same ∙ paying.amount_is;
+  type_is = type_same ∙ paying.type_is;
   amount_fits = subst (λ (a : ℕ). a ≤ most_amount) (sym amount_same) paying.amount_fits;
 }
 
@@ -213,10 +243,15 @@ module _ (iso : Bool) (till : TillData) (answered : ℕ) where
   unfolding settling_turn
   wanted_again line is = rw is refl
 
-  pub replied : (line : List ℕ) (reply : Option (List ℕ)) → bytes_eq line want_line ≡ false → reply ≡ settlement_reply line
+  pub why_asked : (line : List ℕ) → bytes_eq line want_line ≡ false → bytes_eq line why_line ≡ true
+      → settling_turn iso till answered line ≡ why_turn way.Awaits (Settles answered) till till.question
+  unfolding settling_turn
+  why_asked line unwanted is = rw (unwanted, is) refl
+
+  pub replied : (line : List ℕ) (reply : Option (List ℕ)) → bytes_eq line want_line ≡ false → bytes_eq line why_line ≡ false → reply ≡ settlement_reply line
       → settling_turn iso till answered line ≡ turn_if_reply iso till answered reply
   unfolding settling_turn
-  replied line reply unwanted is = rw unwanted (ap (λ (r : Option (List ℕ)). turn_if_reply iso till answered r) (sym is))
+  replied line reply unwanted unasked is = rw (unwanted, unasked) (ap (λ (r : Option (List ℕ)). turn_if_reply iso till answered r) (sym is))
 
 -- a line at rest
 module _ (lane : LaneData) (till : TillData) (line : List ℕ) where
@@ -228,9 +263,15 @@ module _ (lane : LaneData) (till : TillData) (line : List ℕ) where
   unfolding resting_turn
   settle_is other is = rw (other, is) refl
 
-  pub other_is : bytes_eq line next_line ≡ false → bytes_eq line settle_line ≡ false → resting_turn lane till line ≡ other_turn way.Rests Rests till
+  pub why_at_rest : bytes_eq line next_line ≡ false → bytes_eq line settle_line ≡ false → bytes_eq line why_line ≡ true
+      → resting_turn lane till line ≡ why_turn way.Rests Rests till till.question
   unfolding resting_turn
-  other_is other another = rw (other, another) refl
+  why_at_rest other another is = rw (other, another, is) refl
+
+  pub other_is : bytes_eq line next_line ≡ false → bytes_eq line settle_line ≡ false → bytes_eq line why_line ≡ false
+      → resting_turn lane till line ≡ other_turn way.Rests Rests till
+  unfolding resting_turn
+  other_is other another unasked = rw (other, another, unasked) refl
 
   pub rests_turn : (work : Work) (text : List ℕ) (onward : Onward) → WorksAt work Rests till → text ≡ other_line → onward ≡ way.Rests
       → IsTurnOf work text onward (other_turn way.Rests Rests till)
@@ -372,20 +413,21 @@ pub planned_below : (lane : LaneData) (planned : Planned) (number : ℕ) → len
 planned_below lane planned number few is = let within = slice_get_within lane.purchases number planned is in omega (arith, few, within)
 
 -- a purchase that has just begun
-pub begun_paying : (work : Work) (outset : Outset) → HasBegun outset work.kernel → work.phase ≡ phase.Pays → work.amount ≡ outset.purchase.amount → outset.purchase.amount ≤ most_amount
-    → IsPaying work outset []
-begun_paying work outset begun pays amount fits = record {
+pub begun_paying : (work : Work) (outset : Outset) → HasBegun outset work.kernel → work.phase ≡ phase.Pays → work.amount ≡ outset.purchase.amount → work.terminal_type ≡ outset.settings.kind
+    → outset.purchase.amount ≤ most_amount → IsPaying work outset []
+begun_paying work outset begun pays amount type_is fits = record {
   phase_is = pays;
   live = record { outset_is = begun.outset_is; stands = begun.stands; fresh = begun.fresh };
   amount_is = amount;
+  type_is = type_is;
   amount_fits = subst (λ (a : ℕ). a ≤ most_amount) (sym amount) fits;
 }
 
 -- the terminal of a lane whose first purchase has just begun
 pub has_begun : (lane : LaneData) (work : Work) (planned : Planned) → IsLane lane → length lane.purchases ≤ most_purchases → slice_get lane.purchases 0 ≡ Some planned
     → HasBegun (outset_of_planned lane planned) work.kernel → kernel_next work.kernel ≡ standing_next (dialogue (outset_in work.kernel) []) → work.phase ≡ phase.Pays
-    → work.amount ≡ planned.purchase.amount → work.till ≡ record new_till { begun = new_till.begun + 1 } → HasAskedSo lane work []
-has_begun lane work planned rules few first begun stands pays amount till_is =
+    → work.amount ≡ planned.purchase.amount → work.terminal_type ≡ lane.settings.kind → work.till ≡ record new_till { begun = new_till.begun + 1 } → HasAskedSo lane work []
+has_begun lane work planned rules few first begun stands pays amount type_is till_is =
     let opened : HasOpened lane work = record {
       planned = planned;
       first = first;
@@ -395,6 +437,6 @@ has_begun lane work planned rules few first begun stands pays amount till_is =
     none_asked lane work opened stands rules few
     (record {
       till_is = till_is;
-      does = begun_paying work (outset_of_planned lane planned) begun pays amount (planned_fits lane planned 0 rules first).purchase.amount_fits;
+      does = begun_paying work (outset_of_planned lane planned) begun pays amount type_is (planned_fits lane planned 0 rules first).purchase.amount_fits;
       amounts = All-nil (λ (logged : Logged). logged.amount ≤ most_amount);
     })

@@ -1,6 +1,6 @@
 -- The talk of a terminal at a reader: the lines that it reads, and what it writes (this project's own).
-use Rattle.std.specs.Prelude.{◌≡◌, ◌≤◌, ◌<◌, ◌+◌, ℕ, if◌then◌else◌, List, [], ◌∷◌, ◌++◌, codes, Option, Some, None, Bool, false, length, option_map, slice_get}
-use Rattle.std.specs.List.{All}
+use Rattle.std.specs.Prelude.{◌≡◌, ◌≤◌, ◌<◌, ◌+◌, ℕ, if◌then◌else◌, List, [], ◌∷◌, ◌++◌, codes, Option, Some, None, Bool, false, length, option_map, option_to_list, slice_get}
+use Rattle.std.specs.List.{All, flat_map}
 use Rattle.std.specs.Str.{bytes_eq}
 use Rattle.emv_dict.specs.Settings.{most_amount}
 use Rattle.emv_dict.specs.declared.purchase.Logged.{Logged}
@@ -22,8 +22,11 @@ use Rattle.trace_check.specs.Texts.{entry_of_text, entry_text}
 use Rattle.trace_check.specs.declared.entry.Entry.{Entry}
 use Rattle.terminal_at_reader.specs.Document.{most_purchases}
 use Rattle.terminal_at_reader.specs.Hearing.{fault_line, spoken, understood, unread}
+use Rattle.ask_reasons.specs.LastQuestion.{question_behind}
+use Rattle.ask_reasons.specs.QuestionText.{question_text}
 use Rattle.terminal_at_reader.specs.Settlement.{settled_line, settlement_line, settlement_reply, settlement_unread}
 use Rattle.terminal_at_reader.specs.Till.{TillData, new_till, till_ended}
+use Rattle.ask_reasons.specs.declared.question.Question.{Question}
 use Rattle.terminal_at_reader.specs.declared.work.Phase.TheVariants as phase
 use Rattle.terminal_at_reader.specs.declared.work.Work.{Work}
 
@@ -42,14 +45,21 @@ asked_line iso outset replies = line_of (spoken iso (ask_at outset replies))
 abbrev pub end_shown_at : Outset → List Reply → Option EndShown
 end_shown_at outset replies = option_map shown_end (end_of outset (dialogue outset replies))
 
+-- the last question about a cryptogram that is decided on behind these replies
+abbrev pub question_decided : Outset → List Reply → Option Question
+question_decided outset replies = question_behind outset.settings.kind (dialogue outset replies).steps_done
+
 -- the outset of a lane's purchase
 abbrev pub outset_of_planned : LaneData → Planned → Outset
 outset_of_planned lane planned = record { settings = lane.settings; purchase = planned.purchase }
 
--- the line that asks for what was written last and waits; and at rest those that ask for the next purchase, and for the
--- settlement
+-- the line that asks for what was written last and waits, and the one that asks why the last question is of its kind; and at
+-- rest those that ask for the next purchase, and for the settlement
 abbrev pub want_line : List ℕ
 want_line = codes "want"
+
+abbrev pub why_line : List ℕ
+why_line = codes "why"
 
 abbrev pub next_line : List ℕ
 next_line = codes "next"
@@ -74,10 +84,14 @@ pub record TerminalTurn : Type 0 where
 abbrev pub other_turn : Onward → Doing → TillData → TerminalTurn
 other_turn onward doing till = record { answer = other_line; onward = onward; doing = doing; till = till }
 
+-- what a question's kind rests on is told, and all stays as it is
+abbrev pub why_turn : Onward → Doing → TillData → Option Question → TerminalTurn
+why_turn onward doing till question = record { answer = question_text question; onward = onward; doing = doing; till = till }
+
 -- the purchase asks, and where it has ended the terminal rests
 abbrev pub turn_by_end : Outset → List Reply → TillData → List ℕ → Option EndShown → TerminalTurn
 turn_by_end outset replies till text None = record { answer = text; onward = way.Awaits; doing = Pays outset replies; till = till }
-turn_by_end outset replies till text (Some end) = record { answer = text; onward = way.Rests; doing = Rests; till = till_ended outset.purchase.amount end till }
+turn_by_end outset replies till text (Some end) = record { answer = text; onward = way.Rests; doing = Rests; till = till_ended outset.purchase.amount end (question_decided outset replies) till }
 
 -- behind these replies it is asked what the dialogue asks then, and before that this is told
 abbrev pub asked_turn : Bool → Outset → List Reply → TillData → List ℕ → TerminalTurn
@@ -103,6 +117,7 @@ turn_with iso outset replies till told (Some reply) =
 unfoldable pub paying_turn : Bool → Outset → List Reply → TillData → List ℕ → TerminalTurn
 paying_turn iso outset replies till line =
     if bytes_eq line want_line then asked_turn iso outset replies till []
+    else if bytes_eq line why_line then why_turn way.Awaits (Pays outset replies) till (question_decided outset replies)
     else turn_with iso outset replies till (told_of iso (entry_of_text line)) (reply_if_entry iso till.log (entry_of_text line))
 
 -- a purchase begins, where one is left
@@ -123,11 +138,12 @@ turn_if_captured iso till answered told (Some message) =
 abbrev pub settlement_turn : Bool → TillData → ℕ → List ℕ → TerminalTurn
 settlement_turn iso till answered told = turn_if_captured iso till answered told (slice_get till.captures answered)
 
--- at rest
+-- at rest; the last question is that of the purchase that ended last
 unfoldable pub resting_turn : LaneData → TillData → List ℕ → TerminalTurn
 resting_turn lane till line =
     if bytes_eq line next_line then next_turn lane till
     else if bytes_eq line settle_line then settlement_turn lane.iso till 0 []
+    else if bytes_eq line why_line then why_turn way.Rests Rests till till.question
     else other_turn way.Rests Rests till
 
 -- in a settlement, in which a reply is awaited
@@ -139,6 +155,7 @@ turn_if_reply iso till answered (Some reply) =
 unfoldable pub settling_turn : Bool → TillData → ℕ → List ℕ → TerminalTurn
 settling_turn iso till answered line =
     if bytes_eq line want_line then settlement_turn iso till answered []
+    else if bytes_eq line why_line then why_turn way.Awaits (Settles answered) till till.question
     else turn_if_reply iso till answered (settlement_reply line)
 
 abbrev pub terminal_turn : LaneData → Doing → TillData → List ℕ → TerminalTurn
@@ -178,17 +195,18 @@ pub record IsPaying (work : Work) (outset : Outset) (replies : List Reply) : Typ
   pub phase_is : work.phase ≡ phase.Pays
   pub live : IsLive outset work.kernel replies
   pub amount_is : work.amount ≡ outset.purchase.amount
+  pub type_is : work.terminal_type ≡ outset.settings.kind
   pub amount_fits : work.amount ≤ most_amount
 
 -- it is at a settlement, in which so many messages were answered and another one waits
-pub record IsSettling (work : Work) (till : TillData) (answered : ℕ) : Type 0 where
+pub record IsAtSettlement (work : Work) (till : TillData) (answered : ℕ) : Type 0 where
   pub phase_is : work.phase ≡ phase.Settles answered
   pub waits : answered < length till.captures
 
 abbrev pub IsDoing : Work → TillData → Doing → Type 0
 IsDoing work till (Pays outset replies) = IsPaying work outset replies
 IsDoing work till Rests = work.phase ≡ phase.Rests
-IsDoing work till (Settles answered) = IsSettling work till answered
+IsDoing work till (Settles answered) = IsAtSettlement work till answered
 
 -- the amounts of a log are within their limit
 abbrev pub HasAmounts : List Logged → Type 0
@@ -223,12 +241,20 @@ pub record HasAskedSo (lane : LaneData) (work : Work) (turns : List Turn) : Type
   pub works : GoesOn (onward_behind (terminal_opening lane).onward turns) → WorksAt work doing till
   pub first : turns ≡ [] → HasOpened lane work
 
+-- the replies among entries, to a terminal with this log
+abbrev pub replies_heard : List Logged → List Entry → List Reply
+replies_heard log entries = flat_map (λ entry. option_to_list (reply_with_log log entry)) entries
+
 -- the entries of a trace that lines and answers of a purchase are, up to what was asked last: behind a reply stands what is
--- told of it, and what is asked next; a line that asks for it once more is no entry
-pub data AreEntries (iso : Bool) (first : List ℕ) : List Turn → List Entry → Type 0 where
-  asks : (ask : Entry) → first ≡ line_of (spoken iso ask) → AreEntries iso first [] (ask ∷ [])
-  asks_again : (turns : List Turn) (entries : List Entry) (ask : Entry) (turn : Turn) → AreEntries iso first turns (entries ++ ask ∷ [])
-      → turn.line ≡ want_line → turn.answer ≡ line_of (spoken iso ask) → AreEntries iso first (turns ++ turn ∷ []) (entries ++ ask ∷ [])
-  goes_on : (turns : List Turn) (entries : List Entry) (said ask : Entry) (turn : Turn) → AreEntries iso first turns entries
+-- told of it, and what is asked next; a line that asks for it once more is no entry, nor is one that asks why, which is
+-- answered by the last question behind the replies so far
+pub data AreEntries (iso : Bool) (log : List Logged) (outset : Outset) (first : List ℕ) : List Turn → List Entry → Type 0 where
+  asks : (ask : Entry) → first ≡ line_of (spoken iso ask) → AreEntries iso log outset first [] (ask ∷ [])
+  asks_again : (turns : List Turn) (entries : List Entry) (ask : Entry) (turn : Turn) → AreEntries iso log outset first turns (entries ++ ask ∷ [])
+      → turn.line ≡ want_line → turn.answer ≡ line_of (spoken iso ask) → AreEntries iso log outset first (turns ++ turn ∷ []) (entries ++ ask ∷ [])
+  asks_why : (turns : List Turn) (entries : List Entry) (turn : Turn) → AreEntries iso log outset first turns entries
+      → turn.line ≡ why_line → turn.answer ≡ question_text (question_decided outset (replies_heard log entries))
+      → AreEntries iso log outset first (turns ++ turn ∷ []) entries
+  goes_on : (turns : List Turn) (entries : List Entry) (said ask : Entry) (turn : Turn) → AreEntries iso log outset first turns entries
       → turn.line ≡ entry_text said → turn.answer ≡ fault_line (unread iso said) ++ line_of (spoken iso ask)
-      → AreEntries iso first (turns ++ turn ∷ []) (entries ++ understood iso said ∷ ask ∷ [])
+      → AreEntries iso log outset first (turns ++ turn ∷ []) (entries ++ understood iso said ∷ ask ∷ [])

@@ -1,10 +1,8 @@
 -- What the program does with a document.
-use Rattle.std.specs.Prelude.{◌≡◌, ◌+◌, ℕ, List, [], ◌∷◌, ◌++◌, Option, Some, Ok, Err, option_to_list, slice_get}
+use Rattle.std.specs.Prelude.{◌≡◌, ◌+◌, ℕ, List, [], ◌∷◌, ◌++◌, Option, Some, Ok, Err, slice_get}
 use Rattle.std.specs.Io.KnownBytes.{Appends, Consumes}
-use Rattle.std.specs.List.{flat_map}
 use Rattle.emv_dict.specs.declared.purchase.Logged.{Logged}
 use Rattle.kernel.specs.EndShown.{EndShown}
-use Rattle.kernel.specs.Reply.{Reply}
 use Rattle.line_talk.specs.Coming.{Comes}
 use Rattle.line_talk.specs.Preamble.{IsDocument}
 use Rattle.line_talk.specs.Talk.{Programme, Sides}
@@ -14,13 +12,12 @@ use Rattle.scenario_fields.specs.Line.{refused_line}
 use Rattle.scenario_fields.specs.declared.fault.ScenarioFault.{ScenarioFault}
 use Rattle.scenario_lanes.specs.Plan.{LaneData}
 use Rattle.scenario_lanes.specs.declared.plan.Planned.{Planned}
-use Rattle.trace_check.specs.Dialogues.{reply_with_log}
 use Rattle.trace_check.specs.Laws.{IsDialogue}
 use Rattle.trace_check.specs.Verdicts.{verdict_of}
 use Rattle.trace_check.specs.declared.compare.Verdict.TheVariants.{Same}
 use Rattle.trace_check.specs.declared.entry.Entry.{Entry}
 use Rattle.terminal_at_reader.specs.Document.{ReadsTerminal}
-use Rattle.terminal_at_reader.specs.Talk.{AreEntries, IsTerminalTalk, Rests, TerminalTalked, end_shown_at, outset_of_planned, terminal_opening}
+use Rattle.terminal_at_reader.specs.Talk.{AreEntries, IsTerminalTalk, Rests, TerminalTalked, end_shown_at, outset_of_planned, replies_heard, terminal_opening}
 use Rattle.terminal_at_reader.specs.Till.{TillData, approval_logged}
 
 -- a document is refused by its first fault, and else its terminal talks
@@ -37,15 +34,11 @@ abbrev pub written_last : List ℕ → List Turn → List ℕ
 written_last first [] = first
 written_last first (turn ∷ turns) = written_last turn.answer turns
 
--- the replies among entries, to a terminal with this log
-abbrev pub replies_heard : List Logged → List Entry → List Reply
-replies_heard log entries = flat_map (λ entry. option_to_list (reply_with_log log entry)) entries
-
 -- a purchase of a terminal with this log of earlier ones, as lines and answers behind its first ask: its whole dialogue,
 -- which ends so; and where the log is empty, a trace that is the same as the dialogue
 pub record IsPaid (lane : LaneData) (planned : Planned) (log : List Logged) (first : List ℕ) (turns : List Turn) (end : EndShown) : Type 0 where
   pub entries : List Entry
-  pub are : AreEntries lane.iso first turns entries
+  pub are : AreEntries lane.iso log (outset_of_planned lane planned) first turns entries
   pub whole : IsDialogue log (outset_of_planned lane planned) [] entries
   pub ends : end_shown_at (outset_of_planned lane planned) (replies_heard log entries) ≡ Some end
   pub same : log ≡ [] → verdict_of (record { lane = record lane { purchases = planned ∷ [] }; entries = entries }) ≡ Same

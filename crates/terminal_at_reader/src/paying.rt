@@ -8,16 +8,17 @@ ghost use Rattle.terminal_at_reader.specs.Talk.{HasAmounts, IsPaying, IsTurnOf, 
 
 use crate::asking::{tell_ask, tell_end};
 use crate::hearing::hear;
-use crate::saying::{put_fault, put_other};
+use crate::saying::{put_fault, put_other, put_why};
 use crate::work::{Phase, Work};
+use ask_reasons::last_question;
 use kernel::{Next, Tally};
 use line_talk::{LineText, Onward};
 use std::alloc::{AllocError, Global};
 use trace_check::entry::entry_of;
 use trace_check::take_with_log;
 
-/// Adds how the purchase has ended: where it was approved it joins the log, what it captured waits for settlement, and the
-/// terminal rests.
+/// Adds how the purchase has ended: where it was approved it joins the log, what it captured waits for settlement, its last
+/// question is kept, and the terminal rests.
 fn add_end(iso: bool, work: &mut Work<'_>, text: &mut Vec<u8>) -> Result<Onward, AllocError>
     requires over { kernel_next work.old.kernel ≡ next.Ended }
     requires fresh { work.old.kernel.is_spent ≡ false }
@@ -26,9 +27,10 @@ fn add_end(iso: bool, work: &mut Work<'_>, text: &mut Vec<u8>) -> Result<Onward,
         → IsTurnOf work.new text.new.items onward (asked_turn iso outset replies work.old.till text.old.items)) }
 {
     let mut line = LineText::new();
+    let question = last_question(work.terminal_type, &work.kernel);
     let end = work.kernel.end(&mut Tally::new());
     let outcome = tell_end(end, &mut line);
-    work.till.keep(work.amount, outcome)?;
+    work.till.keep(work.amount, question, outcome)?;
     work.phase = Phase::Rests;
     text.extend_from_slice(line.as_slice())?;
     Ok(Onward::Rests)
@@ -50,7 +52,8 @@ pub fn add_asked(iso: bool, work: &mut Work<'_>, text: &mut Vec<u8>) -> Result<O
     Ok(Onward::Awaits)
 }
 
-/// Answers a line of a purchase: a reply that the terminal awaits by what it asks next, and `want` by what it asked last.
+/// Answers a line of a purchase: a reply that the terminal awaits by what it asks next, `want` by what it asked last, and
+/// `why` by what its last question about a cryptogram rests on.
 pub fn answer_paying(
     alloc: Global,
     iso: bool,
@@ -66,6 +69,10 @@ pub fn answer_paying(
     text.clear();
     if line == b"want".as_slice() {
         return add_asked(iso, work, text);
+    }
+    if line == b"why".as_slice() {
+        let question = last_question(work.terminal_type, &work.kernel);
+        return put_why(question, Onward::Awaits, text);
     }
     let Some(said) = entry_of(alloc, line)? else {
         return put_other(Onward::Stuck, text);

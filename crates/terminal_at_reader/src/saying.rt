@@ -1,9 +1,11 @@
-//! Lines that tell what can't be taken.
+//! Lines that tell what can't be taken, and what a question rests on.
 ghost use Rattle.std.specs.Prelude.{◌≡◌, OnOk, IfOk};
+ghost use Rattle.ask_reasons.specs.QuestionText.{question_text};
 ghost use Rattle.line_talk.specs.Talk.{other_line};
 ghost use Rattle.terminal_at_reader.specs.Hearing.{fault_line};
 
 use crate::fault::{ReplyFault, tell_fault};
+use ask_reasons::{Question, tell_question};
 use line_talk::{LineText, Onward, put_line};
 use std::alloc::AllocError;
 
@@ -22,5 +24,20 @@ pub fn put_other(onward: Onward, text: &mut Vec<u8>) -> Result<Onward, AllocErro
     ensures onward { IfOk result (λ found. found ≡ onward) }
 {
     put_line(text, b"?\n")?;
+    Ok(onward)
+}
+
+/// Puts the line of a question in place of what was there, and tells how it goes on.
+pub fn put_why(
+    question: Option<Question>,
+    onward: Onward,
+    text: &mut Vec<u8>,
+) -> Result<Onward, AllocError>
+    ensures told { OnOk result (text.new.items ≡ question_text question) }
+    ensures onward { IfOk result (λ found. found ≡ onward) }
+{
+    let mut line = LineText::new();
+    tell_question(question, &mut line);
+    put_line(text, line.as_slice())?;
     Ok(onward)
 }

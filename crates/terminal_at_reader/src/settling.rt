@@ -1,16 +1,16 @@
 //! The settlement: each message that was captured is sent, and waits for the host's reply.
-ghost use Rattle.std.specs.Prelude.{◌≡◌, ◌≤◌, ◌<◌, ◌+◌, ◌++◌, [], length, IfOk, option_map, slice_get};
+ghost use Rattle.std.specs.Prelude.{◌≡◌, ◌≤◌, ◌+◌, ◌++◌, [], IfOk, option_map, slice_get};
 ghost use Rattle.auth_message.specs.Whole.{IsMessage};
 ghost use Rattle.iso_message.specs.Dialect.{call_kind_of};
 ghost use Rattle.iso_message.specs.Reply.{iso_reply_of};
 ghost use Rattle.auth_message.specs.Message.{message_of};
 ghost use Rattle.terminal_at_reader.specs.Settlement as spec;
-ghost use Rattle.terminal_at_reader.specs.Talk.{HasAmounts, IsTurnOf, settlement_turn, settling_turn};
+ghost use Rattle.terminal_at_reader.specs.Talk.{HasAmounts, IsAtSettlement, IsTurnOf, settlement_turn, settling_turn};
 
 use crate::asking::{tell_settled, tell_settlement};
 use crate::fault::ReplyFault;
 use crate::hearing::fault_in;
-use crate::saying::{put_fault, put_other};
+use crate::saying::{put_fault, put_other, put_why};
 use crate::till::Captured;
 use crate::work::{Phase, Work};
 use auth_message::{Incoming, read_message};
@@ -145,13 +145,16 @@ pub fn answer_settling(
     line: &[u8],
     text: &mut Vec<u8>,
 ) -> Result<Onward, AllocError>
-    requires waits { answered < length work.old.till.captures }
+    requires settles { IsAtSettlement work.old work.old.till answered }
     requires log { HasAmounts work.old.till.log }
     ensures turn { IfOk result (λ onward. IsTurnOf work.new text.new.items onward (settling_turn iso work.old.till answered line.now)) }
 {
     text.clear();
     if line == b"want".as_slice() {
         return add_settlement(iso, work, answered, text);
+    }
+    if line == b"why".as_slice() {
+        return put_why(work.till.question(), Onward::Awaits, text);
     }
     let Some(reply) = reply_in(alloc, line)? else {
         return put_other(Onward::Stuck, text);

@@ -8,7 +8,7 @@ ghost use Rattle.terminal_at_reader.specs.Till.{TillData};
 
 use crate::asking::tell_ask;
 use crate::paying::{add_asked, answer_paying};
-use crate::saying::put_other;
+use crate::saying::{put_other, put_why};
 use crate::settling::{add_settlement, answer_settling};
 use crate::till::Till;
 use crate::work::{Phase, Work};
@@ -29,6 +29,13 @@ fn is_iso(lane: &Lane) -> bool
     ensures { result ≡ lane.now.iso }
 {
     lane.iso
+}
+
+/// The type of a lane's terminal.
+fn type_of(lane: &Lane) -> u8
+    ensures { result ≡ lane.now.settings.kind }
+{
+    lane.settings.kind
 }
 
 /// The amount of a purchase.
@@ -63,6 +70,7 @@ pub fn begin<'s>(alloc: Global, lane: &'s Lane) -> Terminal<'s>
     let work = Work {
         kernel,
         amount: amount_of(planned),
+        terminal_type: type_of(lane),
         phase: Phase::Pays,
         till,
     };
@@ -85,6 +93,7 @@ fn begin_planned<'s>(
 {
     work.kernel.begin_again(&lane.settings, &planned.purchase);
     work.amount = amount_of(planned);
+    work.terminal_type = type_of(lane);
     work.phase = Phase::Pays;
     work.till.begin();
     add_asked(is_iso(lane), work, text)
@@ -108,8 +117,8 @@ fn begin_next<'s>(
     }
 }
 
-/// Answers a line at rest: `next` by what the next purchase asks first, and `settle` by the first message that waits for
-/// settlement.
+/// Answers a line at rest: `next` by what the next purchase asks first, `settle` by the first message that waits for
+/// settlement, and `why` by what the last question of the purchase that ended last rests on.
 fn answer_resting<'s>(
     lane: &'s Lane,
     work: &mut Work<'s>,
@@ -127,6 +136,9 @@ fn answer_resting<'s>(
     }
     if line == b"settle".as_slice() {
         return add_settlement(is_iso(lane), work, 0, text);
+    }
+    if line == b"why".as_slice() {
+        return put_why(work.till.question(), Onward::Rests, text);
     }
     put_other(Onward::Rests, text)
 }

@@ -1,3 +1,4 @@
+mod questions;
 mod settlement;
 
 use crate::top::run;

@@ -1,5 +1,5 @@
-//! What a terminal has of its purchases: how many have begun, the log of those that were approved, and the messages that
-//! wait for settlement.
+//! What a terminal has of its purchases: how many have begun, the log of those that were approved, the messages that wait
+//! for settlement, and the last question about a cryptogram.
 ghost use Rattle.std.specs.Prelude.{◌≡◌, ◌≤◌, ◌<◌, ◌+◌, ◌++◌, [], length, OnOk, option_map, option_to_list, slice_get};
 ghost use Rattle.std.specs.List.{All};
 ghost use Rattle.auth_message.specs.Whole.{IsMessage};
@@ -8,6 +8,7 @@ ghost use Rattle.kernel.specs.EndShown.{EndShown};
 ghost use Rattle.terminal_at_reader.specs.Talk.{HasAmounts};
 ghost use Rattle.terminal_at_reader.specs.Till.{approval_logged, new_till, till_ended};
 
+use ask_reasons::Question;
 use auth_message::Message;
 use emv_dict::{Digits, Ending, Logged};
 use kernel::Capture;
@@ -64,12 +65,14 @@ pub struct Outcome {
     pub captured: Option<Captured>,
 }
 
-/// How many purchases have begun, the log of approvals, and what waits for settlement, oldest first.
+/// How many purchases have begun, the log of approvals, what waits for settlement, oldest first, and the last question of
+/// the purchase that ended last.
 #[derive(Drop)]
 pub struct Till {
     begun: usize,
     log: Vec<Logged>,
     captures: Vec<Captured>,
+    question: Option<Question>,
 }
 
 impl Model for Till {
@@ -77,7 +80,7 @@ impl Model for Till {
 
     ghost Value = { TillData };
 
-    ghost view = { λ t. record { begun = t.begun; log = t.log.items; captures = t.captures.items } };
+    ghost view = { λ t. record { begun = t.begun; log = t.log.items; captures = t.captures.items; question = t.question } };
 }
 
 impl Till {
@@ -89,6 +92,7 @@ impl Till {
             begun: 0,
             log: Vec::new(alloc),
             captures: Vec::new(alloc),
+            question: None,
         }
     }
 
@@ -128,11 +132,23 @@ impl Till {
         self.captures.get(number)
     }
 
-    /// A purchase of this amount has ended: where it was approved it joins the log, and what it captured waits for
-    /// settlement. After `AllocError` nothing is said of what is kept.
-    pub fn keep(&mut self, amount: u64, outcome: Outcome) -> Result<(), AllocError>
+    /// The last question about a cryptogram of the purchase that ended last, where it had one.
+    pub fn question(&self) -> Option<Question>
+        ensures { result ≡ self.now.question }
+    {
+        self.question
+    }
+
+    /// A purchase of this amount has ended behind this last question: where it was approved it joins the log, and what it
+    /// captured waits for settlement. After `AllocError` nothing is said of what is kept.
+    pub fn keep(
+        &mut self,
+        amount: u64,
+        question: Option<Question>,
+        outcome: Outcome,
+    ) -> Result<(), AllocError>
         ensures kept { OnOk result ((end : EndShown) → end.ending ≡ outcome.ending → end.pan ≡ outcome.pan → end.capture ≡ outcome.captured
-            → self.new ≡ till_ended amount end self.old) }
+            → self.new ≡ till_ended amount end question self.old) }
         ensures amounts { OnOk result (amount ≤ most_amount → HasAmounts self.old.log → HasAmounts self.new.log) }
     {
         let Outcome {
@@ -142,6 +158,7 @@ impl Till {
         } = outcome;
         add_approval(&mut self.log, ending, pan, amount)?;
         add_captured(&mut self.captures, captured)?;
+        self.question = question;
         Ok(())
     }
 

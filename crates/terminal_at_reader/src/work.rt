@@ -19,6 +19,8 @@ pub struct Work<'s> {
     pub kernel: Kernel<'s>,
     /// The amount of that purchase.
     pub amount: u64,
+    /// The terminal's type.
+    pub terminal_type: u8,
     pub phase: Phase,
     pub till: Till,
 }

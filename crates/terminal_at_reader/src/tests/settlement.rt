@@ -1,3 +1,4 @@
+use crate::tests::questions::OFFLINE;
 use crate::tests::{ASKED, ISO, ISO_ONLINE, REPLIES, UNREAD, hold, joined, run_of, talk, terminal};
 use std::process::Abort;
 use std::test::Fail;
@@ -15,14 +16,22 @@ fn what_was_captured_is_settled_once(rt: HostRuntime) -> Result<(), Fail> {
         rt.alloc(),
         &[
             REPLIES,
-            "settle\nwant\n",
+            "settle\nwant\nwhy\n",
             SETTLED_WELL,
-            "settle\nnext\nwant\n",
+            "settle\nwhy\nnext\nwant\n",
         ],
     )?;
     let asked = joined(
         rt.alloc(),
-        &[ASKED, SETTLED, SETTLED, "settled 1\nsettled 0\n?\n?\n"],
+        &[
+            ASKED,
+            SETTLED,
+            SETTLED,
+            OFFLINE,
+            "settled 1\nsettled 0\n",
+            OFFLINE,
+            "?\n?\n",
+        ],
     )?;
     hold(&rt, rt.alloc(), replies.as_str(), 0, asked.as_str())
 }

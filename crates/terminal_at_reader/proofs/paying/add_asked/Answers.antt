@@ -1,4 +1,4 @@
-use Rattle.std.proofs.Common.{◌≡◌, ap, rules, sym, ◌∙◌, ◌++◌, List, ℕ}
+use Rattle.std.proofs.Common.{◌≡◌, ap, rules, ◌∙◌, ◌++◌, List, ℕ}
 use Rattle.kernel.specs.Kernel.{kernel_next}
 use Rattle.kernel.specs.declared.kernel.Next.TheVariants as next
 use Rattle.terminal_at_reader.proofs.Turning.{awaits_turn}

@@ -1,4 +1,4 @@
-use Rattle.std.proofs.Common.{refl, sym, ◌∙◌}
+use Rattle.std.proofs.Common.{refl, sym}
 use Rattle.terminal_at_reader.proofs.Turning.{sent_turn, settled_turn}
 use Rattle.terminal_at_reader.proofs.settling.settle_one.Goals as goal
 

@@ -44,7 +44,7 @@ pub answer_settling-requires : goal.answer_settling-requires
 answer_settling-requires c =
     let works = c.requires.works in
     record {
-      waits = settles_below c.args.work.now works.0 works.1 c.in-Settles.answered works.2 c.in-Settles.is;
+      settles = record { phase_is = c.in-Settles.is; waits = settles_below c.args.work.now works.0 works.1 c.in-Settles.answered works.2 c.in-Settles.is };
       log = has_amounts c.args.work.now works.0 works.1 works.2;
     }
 

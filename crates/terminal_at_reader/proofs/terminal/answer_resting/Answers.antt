@@ -1,7 +1,9 @@
-use Rattle.std.proofs.Common.{◌≡◌, ◌∙◌, ap, Bool, List, ℕ, [], true, false, subst, sym}
+use Rattle.std.proofs.Common.{◌≡◌, ◌∙◌, ap, Bool, List, ℕ, Option, [], true, false, subst, sym}
 use Rattle.std.specs.Str.{bytes_eq}
-use Rattle.terminal_at_reader.proofs.Turning.{if_other, if_so, next_is, other_is, rests_turn, settle_is, turn_along}
-use Rattle.terminal_at_reader.specs.Talk.{IsTurnOf, next_line, settle_line, settlement_turn}
+use Rattle.terminal_at_reader.proofs.Turning.{if_other, if_so, next_is, other_is, rests_turn, settle_is, turn_along, why_at_rest, why_told}
+use Rattle.ask_reasons.specs.QuestionText.{question_text}
+use Rattle.terminal_at_reader.specs.Talk.{IsTurnOf, Rests, next_line, settle_line, settlement_turn, why_line}
+use Rattle.ask_reasons.specs.declared.question.Question.{Question}
 use Rattle.terminal_at_reader.proofs.terminal.answer_resting.Goals as goal
 
 pub returns-then-eq : goal.returns-then-eq
@@ -30,15 +32,33 @@ returns-then-eq-2 c =
           c.add_settlement.ensures.turn;
     }
 
+pub returns-then-eq-3 : goal.returns-then-eq-3
+returns-then-eq-3 c =
+    let isnt : bytes_eq c.args.line.now next_line ≡ false =
+    sym (c.eq.ensures ∙ ap (λ (bytes : List ℕ). bytes_eq c.args.line.now bytes) c.as_slice.ensures) ∙ c.if-eq.false in
+    let isnt_settle : bytes_eq c.args.line.now settle_line ≡ false =
+    sym (c.eq-2.ensures ∙ ap (λ (bytes : List ℕ). bytes_eq c.args.line.now bytes) c.as_slice-2.ensures) ∙ c.if-eq-2.false in
+    let is : bytes_eq c.args.line.now why_line ≡ true =
+    sym (c.eq-3.ensures ∙ ap (λ (bytes : List ℕ). bytes_eq c.args.line.now bytes) c.as_slice-3.ensures) ∙ c.if-eq-3.true in
+    record {
+      turn = if_other _ _ _ c.put_why.result c.put_why.ensures.told c.put_why.ensures.onward
+          (λ onward told rests.
+          turn_along c.args.work.now c.put_why.new.text.items onward _ _ (why_at_rest c.args.lane.now c.args.work.now.till c.args.line.now isnt isnt_settle is)
+          (why_told c.args.work.now c.put_why.new.text.items onward _ Rests c.args.work.now.till c.args.work.now.till.question
+          (told ∙ ap (λ (q : Option Question). question_text q) c.question.ensures) rests c.requires.works));
+    }
+
 pub returns : goal.returns
 returns c =
     let isnt : bytes_eq c.args.line.now next_line ≡ false =
     sym (c.eq.ensures ∙ ap (λ (bytes : List ℕ). bytes_eq c.args.line.now bytes) c.as_slice.ensures) ∙ c.if-eq.false in
     let isnt_settle : bytes_eq c.args.line.now settle_line ≡ false =
     sym (c.eq-2.ensures ∙ ap (λ (bytes : List ℕ). bytes_eq c.args.line.now bytes) c.as_slice-2.ensures) ∙ c.if-eq-2.false in
+    let unasked : bytes_eq c.args.line.now why_line ≡ false =
+    sym (c.eq-3.ensures ∙ ap (λ (bytes : List ℕ). bytes_eq c.args.line.now bytes) c.as_slice-3.ensures) ∙ c.if-eq-3.false in
     record {
       turn = if_other _ _ _ c.put_other.result c.put_other.ensures.told c.put_other.ensures.onward
           (λ onward told rests.
-          turn_along c.args.work.now c.put_other.new.text.items onward _ _ (other_is c.args.lane.now c.args.work.now.till c.args.line.now isnt isnt_settle)
+          turn_along c.args.work.now c.put_other.new.text.items onward _ _ (other_is c.args.lane.now c.args.work.now.till c.args.line.now isnt isnt_settle unasked)
           (rests_turn c.args.lane.now c.args.work.now.till c.args.line.now c.args.work.now c.put_other.new.text.items onward c.requires.works told rests));
     }

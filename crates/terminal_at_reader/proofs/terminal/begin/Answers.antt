@@ -19,5 +19,5 @@ returns-clause-begun c =
     (let some = subst (λ (l : LaneData). 1 ≤ length l.purchases) (sym same) c.requires.some in omega (arith, some)) c.index-planned.ensures) in
     has_begun c.args.lane.now _ planned c.requires.rules c.requires.few first
     (subst (λ (l : LaneData). HasBegun (outset_of_planned l planned) c.begin-kernel.result) same c.begin-kernel.ensures)
-    (sym c.next-waits.ensures.exact ∙ c.next-waits.ensures.told _ c.begin-kernel.ensures.stands) refl c.amount_of.ensures
+    (sym c.next-waits.ensures.exact ∙ c.next-waits.ensures.told _ c.begin-kernel.ensures.stands) refl c.amount_of.ensures c.type_of.ensures
     (c.begin.ensures ∙ ap (λ (t : TillData). record t { begun = t.begun + 1 }) c.new-till.ensures)

@@ -1,5 +1,4 @@
 use Rattle.std.proofs.Common.{◌≡◌, Bool, [], refl, subst, sym, ◌+◌}
-use Rattle.emv_dict.specs.Settings.{most_amount}
 use Rattle.kernel.specs.BeginEnd.{HasBegun}
 use Rattle.scenario_lanes.specs.Plan.{LaneData}
 use Rattle.terminal_at_reader.proofs.Turning.{begun_paying, if_so}
@@ -27,6 +26,6 @@ returns c =
           (subst (λ (t : TillData). IsTurnOf c.add_asked.new.work c.add_asked.new.text.items onward
           (asked_turn c.is_iso.result (outset_of_planned c.args.lane.now c.args.planned.now) [] t c.args.text.now.items)) c.begin.ensures
           (turn (outset_of_planned c.args.lane.now c.args.planned.now) []
-          (begun_paying _ (outset_of_planned c.args.lane.now c.args.planned.now) begun refl c.amount_of-work.ensures c.requires.purchase.amount_fits))))
+          (begun_paying _ (outset_of_planned c.args.lane.now c.args.planned.now) begun refl c.amount_of-work.ensures c.type_of-work.ensures c.requires.purchase.amount_fits))))
           c.add_asked.ensures.turn;
     }

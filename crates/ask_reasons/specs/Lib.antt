@@ -1,0 +1,2 @@
+pub mod LastQuestion
+pub mod QuestionText
