@@ -2,7 +2,7 @@
 import re
 
 TEXT = """\
-explain [-q] [--brief] [--ends] [--why] [--lane N] [--purchase N] [FILE.toml]: a report with words below each line.
+explain [-q] [--brief] [--ends] [--why] [--books] [--lane N] [--purchase N] [FILE.toml]: a report with words below each line.
 
 Lines that are pasted are told too: entries of a trace without their lane (`> 80ae..`, `host < ..`), bytes in capitals or with
 blanks between, a data object (`95 8040000000`). They come out as they stand in a report. A trace's document is compared
@@ -20,12 +20,14 @@ What is told besides:
 
 --why          behind each purchase why it came out as it did, a line a party: what the terminal asked for and by which bits
                and codes, what the card answered and by which of its tests, with count, sum and limit, and on what the issuer's code
-               rests
+               rests; and behind the last line what is left of the limits of each card, as far as it was followed
+--books        behind each command, status, bit, code, cause and reason that is told where it stands: the rule of
+               docs/proof/profile.md by its short name, and the section of the Books or of another standard
 
 -q, first of all words, silences this launcher; --build proves and builds the program. Wrong words, a file that can't be read,
 and a lane or a purchase that isn't there end with status 2 and a line on standard error.
 """
-FLAGS = ("--brief", "--ends", "--why")
+FLAGS = ("--brief", "--ends", "--why", "--books")
 # The least and the greatest number behind a word, and what it counts.
 NUMBERED = {"--lane": (0, 15, "lane"), "--purchase": (1, 2**32 - 1, "purchase")}
 HANDED_ON = ("--terminal", "--card", "--account")

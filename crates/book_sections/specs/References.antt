@@ -1,19 +1,12 @@
--- Where a reason stands: the reference of a bit, a code, a cause and a reason, and what is told of it (EMV 4.3 Books 1 to 4).
-use Rattle.std.specs.Prelude.{ℕ, ◌+◌, ◌*◌, ◌%◌, ◌==◌, Bool, ◌&&◌, if◌then◌else◌, List, [], ◌++◌, map, codes, Option, Some, None, unwrap_or}
+-- Where a reason stands: the reference of a bit, a code and a cause (EMV 4.3 Books 1 to 4).
+use Rattle.std.specs.Prelude.{ℕ, ◌+◌, ◌*◌, ◌%◌, ◌==◌, ◌&&◌, if◌then◌else◌, List, map, codes, Option, Some, None, unwrap_or}
 use Rattle.std.specs.Str.{bytes_eq}
-use Rattle.report_lines.specs.Pieces.{Piece, text}
-use Rattle.value_words.specs.Words.{word_in, text_in}
-use Rattle.value_words.specs.declared.reason.Reason.{Reason}
-use Rattle.value_words.specs.declared.reason.Reason.TheVariants as reason
-use Rattle.book_sections.specs.declared.references.TheConstants.{RESULT_REFERENCES, STATUS_REFERENCES, METHOD_REFERENCES, OUTCOME_REFERENCES, RESPONSE_REFERENCES, COMMAND_REFERENCES, ANSWER_REFERENCES, STATUS_WORD_REFERENCES, SELECT_CAUSES, INITIATE_CAUSES, READ_CAUSES, FIRST_CAUSES, SECOND_CAUSES, OTHER_CAUSES, LOCATOR_LENGTH, NOT_VERIFIED, NO_RULE, UNKNOWN_METHOD, DENIAL, ONLINE, ANALYSIS, UNABLE, REPLY}
+use Rattle.report_lines.specs.Tables.{word_in, text_in}
+use Rattle.book_sections.specs.declared.references.TheConstants.{RESULT_REFERENCES, METHOD_REFERENCES, OUTCOME_REFERENCES, RESPONSE_REFERENCES, COMMAND_REFERENCES, ANSWER_REFERENCES, STATUS_WORD_REFERENCES, SELECT_CAUSES, INITIATE_CAUSES, READ_CAUSES, FIRST_CAUSES, SECOND_CAUSES, OTHER_CAUSES, LOCATOR_LENGTH, NOT_VERIFIED, NO_RULE, UNKNOWN_METHOD}
 
 -- a bit of the terminal verification results
 unfoldable pub result_reference : ℕ → Option (List ℕ)
 result_reference bit = word_in (map (λ w. (w.0, w.1.now)) RESULT_REFERENCES) bit
-
--- a bit of the transaction status information
-unfoldable pub performed_reference : ℕ → Option (List ℕ)
-performed_reference bit = word_in (map (λ w. (w.0, w.1.now)) STATUS_REFERENCES) bit
 
 -- a method of cardholder verification that is known
 unfoldable pub method_reference : ℕ → Option (List ℕ)
@@ -70,29 +63,3 @@ abbrev pub cause_reference : List ℕ → List ℕ → List ℕ → Option (List
 cause_reference step cause detail =
     if bytes_eq step (codes "initiate") && (bytes_eq cause (codes "afl") && bytes_eq detail (codes "0")) then Some LOCATOR_LENGTH.now
     else step_cause step cause
-
--- what the codes do not tell, at the first or the second question
-abbrev pub undecided_reference : Bool → List ℕ
-undecided_reference second = (if second then UNABLE.now else ANALYSIS.now)
-
--- the reason for a kind of cryptogram
-abbrev pub reason_reference : Reason → Bool → List ℕ
-reason_reference reason.Issuer second = REPLY.now
-reason_reference (reason.Denied bits) second = DENIAL.now
-reason_reference (reason.TerminalDenial bits) second = ANALYSIS.now
-reason_reference (reason.UnableDefault bits) second = UNABLE.now
-reason_reference reason.UnableOnlineOnly second = UNABLE.now
-reason_reference reason.UnableTerminal second = UNABLE.now
-reason_reference reason.UnableNone second = UNABLE.now
-reason_reference reason.NoResults second = undecided_reference second
-reason_reference reason.Unexplained second = undecided_reference second
-reason_reference _ second = ONLINE.now
-
--- a reference in brackets
-abbrev pub reference_words : List ℕ → List Piece
-reference_words reference = text (codes " (") ++ text reference ++ text (codes ")")
-
--- the reference of what has one
-abbrev pub words_of_reference : Option (List ℕ) → List Piece
-words_of_reference None = []
-words_of_reference (Some reference) = reference_words reference

@@ -2,18 +2,15 @@
 //! section of the Books or of another standard that it comes from.
 #![tactic(auto)]
 
-pub mod laws;
 pub mod look_up;
 pub mod references;
-pub mod telling;
 
-pub use laws::references_are_whole;
 pub use look_up::{
-    cause_reference, command_reference, outcome_reference, performed_reference, reason_reference,
-    response_reference, result_reference, status_reference, verification_reference,
+    cause_reference, command_reference, outcome_reference, response_reference, result_reference,
+    status_reference, verification_reference,
 };
 pub use references::{
-    ABOVE_BALANCE, CUT, EXPIRED, FAULTY, FIRST_KIND, HELD, NO_ACCOUNT, NOT_ALLOWED, PRESENTED,
-    REPEATED, REVERSED, SECOND_KIND, WRONG_CRYPTOGRAM, WRONG_PIN,
+    ABOVE_BALANCE, ANALYSIS, CUT, DENIAL, EXPIRED, FIRST_KIND, HELD, NO_ACCOUNT, NOT_ALLOWED,
+    ONLINE, REPLY, SECOND_KIND, SETTLED, STATUS_REFERENCES, TRIES_LEFT, UNABLE, WRONG_CRYPTOGRAM,
+    WRONG_PIN,
 };
-pub use telling::{tell_reference, tell_reference_of};

@@ -1,15 +1,15 @@
-//! The reference of a code, of a bit, of a cause and of a reason.
+//! The reference of a code, of a bit and of a cause.
 ghost use Rattle.std.specs.Prelude.{◌≡◌};
 ghost use Rattle.std.specs.Option.{option_map};
 ghost use Rattle.book_sections.specs.References as spec;
 
 use crate::references::{
-    ANALYSIS, ANSWER_REFERENCES, COMMAND_REFERENCES, DENIAL, FIRST_CAUSES, INITIATE_CAUSES,
-    LOCATOR_LENGTH, METHOD_REFERENCES, NO_RULE, NOT_VERIFIED, ONLINE, OTHER_CAUSES,
-    OUTCOME_REFERENCES, READ_CAUSES, REPLY, RESPONSE_REFERENCES, RESULT_REFERENCES, SECOND_CAUSES,
-    SELECT_CAUSES, STATUS_REFERENCES, STATUS_WORD_REFERENCES, UNABLE, UNKNOWN_METHOD,
+    ANSWER_REFERENCES, COMMAND_REFERENCES, FIRST_CAUSES, INITIATE_CAUSES, LOCATOR_LENGTH,
+    METHOD_REFERENCES, NO_RULE, NOT_VERIFIED, OTHER_CAUSES, OUTCOME_REFERENCES, READ_CAUSES,
+    RESPONSE_REFERENCES, RESULT_REFERENCES, SECOND_CAUSES, SELECT_CAUSES, STATUS_WORD_REFERENCES,
+    UNKNOWN_METHOD,
 };
-use value_words::{Reason, word_of, word_of_text};
+use report_lines::{word_of, word_of_text};
 
 /// In place of a method: no rule was performed.
 const NO_METHOD: u8 = 0x3f;
@@ -19,13 +19,6 @@ pub fn result_reference(bit: u32) -> Option<&'static [u8]>
     ensures { option_map (λ word. word.now) result ≡ spec.result_reference bit }
 {
     word_of(&RESULT_REFERENCES, bit)
-}
-
-/// The reference of a bit of the transaction status information: BYTE times ten plus BIT.
-pub fn performed_reference(bit: u32) -> Option<&'static [u8]>
-    ensures { option_map (λ word. word.now) result ≡ spec.performed_reference bit }
-{
-    word_of(&STATUS_REFERENCES, bit)
 }
 
 /// The reference of a known method of cardholder verification, of six bits.
@@ -123,29 +116,5 @@ pub fn cause_reference(step: &[u8], cause: &[u8], detail: &[u8]) -> Option<&'sta
         Some(LOCATOR_LENGTH)
     } else {
         step_cause(step, cause)
-    }
-}
-
-/// The reference of what the codes do not tell, at the first or the second question.
-fn undecided_reference(second: bool) -> &'static [u8]
-    ensures { result.now ≡ spec.undecided_reference second }
-{
-    if second { UNABLE } else { ANALYSIS }
-}
-
-/// The reference of the reason for a kind of cryptogram; `second` says that it was the second question.
-pub fn reason_reference(reason: Reason, second: bool) -> &'static [u8]
-    ensures { result.now ≡ spec.reason_reference reason second }
-{
-    match reason {
-        Reason::Issuer => REPLY,
-        Reason::Denied(_) => DENIAL,
-        Reason::TerminalDenial(_) => ANALYSIS,
-        Reason::UnableDefault(_)
-        | Reason::UnableOnlineOnly
-        | Reason::UnableTerminal
-        | Reason::UnableNone => UNABLE,
-        Reason::NoResults | Reason::Unexplained => undecided_reference(second),
-        _ => ONLINE,
     }
 }

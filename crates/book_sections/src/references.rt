@@ -90,16 +90,19 @@ pub const RESPONSE_REFERENCES: [(u32, &[u8]); 10] = [
 ];
 
 /// Commands, by class and instruction.
-pub const COMMAND_REFERENCES: [(u32, &[u8]); 16] = [
+pub const COMMAND_REFERENCES: [(u32, &[u8]); 22] = [
     (0x0020, b"CARD-10; Book 3, 6.5.12"),
     (0x0082, b"CARD-14; Book 3, 6.5.4"),
     (0x0084, b"Book 3, 6.5.6"),
     (0x0088, b"Book 3, 6.5.9"),
     (0x00a4, b"CARD-7; Book 1, 11.3"),
+    (0x00b0, b"ISO/IEC 7816-4"),
     (0x00b2, b"CARD-8; Book 1, 11.2"),
+    (0x00c0, b"ISO/IEC 7816-4"),
     (0x00d6, b"ISO/IEC 7816-4"),
     (0x00dc, b"ISO/IEC 7816-4"),
     (0x04da, b"CARD-17; own"),
+    (0x04dc, b"ISO/IEC 7816-4"),
     (0x80a8, b"CARD-9; Book 3, 6.5.8"),
     (0x80ae, b"CARD-12 or CARD-13; Book 3, 6.5.5"),
     (0x80ca, b"CARD-11; Book 3, 6.5.7"),
@@ -107,6 +110,9 @@ pub const COMMAND_REFERENCES: [(u32, &[u8]); 16] = [
     (0x8418, b"CARD-15; Book 3, 6.5.1 to 6.5.3"),
     (0x841e, b"CARD-15; Book 3, 6.5.1 to 6.5.3"),
     (0x8424, b"CARD-16; Book 3, 6.5.10"),
+    (0x8c16, b"Book 3, 6.5.3"),
+    (0x8c1e, b"Book 3, 6.5.1"),
+    (0x8c24, b"Book 3, 6.5.10"),
 ];
 
 /// Status words of any command.
@@ -214,6 +220,9 @@ pub const NO_RULE: &[u8] = b"CVM-12; Book 3, 10.5";
 /// A method of cardholder verification that is not known.
 pub const UNKNOWN_METHOD: &[u8] = b"CVM-5; Book 3, 10.5";
 
+/// The tries that a wrong PIN leaves.
+pub const TRIES_LEFT: &[u8] = b"CARD-10; Book 3, 6.5.12";
+
 /// The card is gone before it answers.
 pub const CUT: &[u8] = b"ANS-2; own";
 
@@ -238,17 +247,11 @@ pub const FIRST_KIND: &[u8] = b"CARD-20; own";
 /// Which kind of cryptogram the card chooses behind the issuer's reply, or without it.
 pub const SECOND_KIND: &[u8] = b"CARD-21; own";
 
-/// The issuer: a message with a fault.
-pub const FAULTY: &[u8] = b"HOST-1; own";
-
-/// The issuer: a message that came before.
-pub const REPEATED: &[u8] = b"HOST-2; own";
-
 /// The issuer: a number that no account has.
 pub const NO_ACCOUNT: &[u8] = b"HOST-3; own";
 
-/// The issuer: a cryptogram that isn't right.
-pub const WRONG_CRYPTOGRAM: &[u8] = b"HOST-4; own";
+/// The issuer: a cryptogram that isn't right, or other bytes of the transaction before.
+pub const WRONG_CRYPTOGRAM: &[u8] = b"HOST-2 or HOST-4; own";
 
 /// The issuer: a blocked account, another currency, or a transaction that is closed.
 pub const NOT_ALLOWED: &[u8] = b"HOST-5; own";
@@ -265,8 +268,5 @@ pub const ABOVE_BALANCE: &[u8] = b"HOST-8; own";
 /// The issuer: an amount that is held.
 pub const HELD: &[u8] = b"HOST-9; own";
 
-/// The issuer: a presentment.
-pub const PRESENTED: &[u8] = b"HOST-10; own";
-
-/// The issuer: a reversal.
-pub const REVERSED: &[u8] = b"HOST-11; own";
+/// The issuer: a presentment or a reversal.
+pub const SETTLED: &[u8] = b"HOST-10 or HOST-11; own";

@@ -3,17 +3,21 @@ use Rattle.std.specs.Prelude.{ℕ, zero, suc, ◌+◌, ◌-◌, ◌*◌, ◌/◌
 use Rattle.std.specs.List.{fold, list_all}
 use Rattle.std.specs.Int.{to_be_bytes, w32}
 use Rattle.std.specs.Str.{bytes_eq}
-use Rattle.report_lines.specs.Pieces.{Piece, line, text, number, hex, word_or}
+use Rattle.report_lines.specs.Pieces.{Piece, line, text, number, hex, word_or, reference, reference_or_none}
+use Rattle.book_sections.specs.References.{cause_reference}
+use Rattle.book_sections.specs.declared.references.TheConstants.{CUT, STATUS_REFERENCES}
 use Rattle.report_lines.specs.Bits.{bits_between}
-use Rattle.value_words.specs.Words.{word_in, text_in, tag_name_in}
+use Rattle.report_lines.specs.Tables.{word_in, text_in}
+use Rattle.value_words.specs.Words.{tag_name_in}
 use Rattle.value_words.specs.declared.bits.TheConstants.{STATUS_BITS}
-use Rattle.value_words.specs.declared.codes.TheConstants.{CAUSES, CRYPTOGRAMS, RESPONSES, STEPS}
+use Rattle.value_words.specs.declared.codes.TheConstants.{CAUSES, CRYPTOGRAMS, STEPS}
 use Rattle.value_words.specs.declared.names.Form.{Form}
 use Rattle.value_words.specs.declared.names.TheConstants.{NAMES}
 use Rattle.emv_dict.specs.declared.ending.Kind.{Kind}
-use Rattle.value_words.specs.ReasonWords.{reason_words}
+use Rattle.exchange_words.specs.Because.{cited_reason}
 use Rattle.value_words.specs.declared.reason.Reason.{Reason}
 use Rattle.object_words.specs.Bits.{bit_word}
+use Rattle.object_words.specs.Issuer.{response_words}
 use Rattle.object_words.specs.Results.{results_words}
 use Rattle.value_words.specs.Lists.{performed_rule}
 use Rattle.value_words.specs.Statuses.{status_words, kind_name}
@@ -91,14 +95,15 @@ abbrev pub in_brackets : List ℕ → List ℕ → List ℕ → List Piece
 in_brackets step cause detail =
     if length detail == 0 then [] else text (codes " (") ++ text detail ++ detail_words step cause (hex_number detail) ++ text (codes ")")
 
--- an end in a step, for a cause
+-- an end in a step, for a cause, and where that stands
 abbrev pub terminated_words : List ℕ → List ℕ → List ℕ → List Piece
 terminated_words step cause detail =
     line 1 ++ text ENDED_AT.now ++ named_step_words step ++ text (codes ": ") ++ cause_words cause ++ in_brackets step cause detail
+    ++ reference_or_none (cause_reference step cause detail)
 
 -- an ending that is no decision
 abbrev pub break_words : EndingData → List Piece
-break_words (Cut step) = line 1 ++ text PULLED_OUT.now ++ named_step_words step
+break_words (Cut step) = line 1 ++ text PULLED_OUT.now ++ named_step_words step ++ reference CUT.now
 break_words (Terminated step cause detail) = terminated_words step cause detail
 break_words Approved = []
 break_words Declined = []
@@ -111,7 +116,7 @@ answered_words (Some answered) = text CARD_ANSWERED.now ++ text (kind_name answe
 abbrev pub decided_words : Kind → Reason → LaneState → List Piece
 decided_words asked reason lane =
     line 1 ++ text ASKED_FOR.now ++ text (kind_name asked) ++ text (codes " because ")
-    ++ reason_words reason lane.second (unwrap_or lane.code (codes "--")) ++ answered_words lane.answered
+    ++ cited_reason reason lane.second (unwrap_or lane.code (codes "--")) ++ answered_words lane.answered
 
 abbrev pub decision_words : Option Kind → Option Reason → LaneState → List Piece
 decision_words None reason lane = []
@@ -128,19 +133,13 @@ ending_words lane (Terminated step cause detail) = terminated_words step cause d
 -- a bit of the transaction status information by its place among 16
 abbrev pub performed_word : ℕ → List Piece
 performed_word place =
-    bit_word (map (λ w. (w.0, w.1.now)) STATUS_BITS) (place / 8 + 1) (8 - place % 8)
+    bit_word (map (λ w. (w.0, w.1.now)) STATUS_BITS) (map (λ w. (w.0, w.1.now)) STATUS_REFERENCES) (place / 8 + 1) (8 - place % 8)
 
 abbrev pub performed_bits : ℕ → List Piece
 performed_bits status = bits_between 16 (text (codes ", ")) performed_word status
 
 abbrev pub performed_words : ℕ → List Piece
 performed_words status = (if status % 65536 == 0 then text (codes "no bit") else performed_bits status)
-
-unfoldable pub end_code_word : ℕ → Option (List ℕ)
-end_code_word code = word_in (map (λ w. (w.0, w.1.now)) RESPONSES) code
-
-abbrev pub end_code_words : ℕ → List Piece
-end_code_words code = word_or (text (codes "not known")) (end_code_word code)
 
 -- a code that approves: the issuer's, or the terminal's
 abbrev pub is_approving : List ℕ → Bool
@@ -155,7 +154,7 @@ abbrev pub response_line_words : Bool → List ℕ → List Piece
 response_line_words declined code =
     if bytes_eq code (codes "--") then []
     else if length code == 2
-    then line 1 ++ text (codes "code ") ++ text code ++ text (codes ": ") ++ end_code_words (slice_index code 0 * 256 + slice_index code 1) ++ decliner_words declined code
+    then line 1 ++ text (codes "code ") ++ text code ++ text (codes ": ") ++ response_words (slice_index code 0 * 256 + slice_index code 1) ++ decliner_words declined code
     else []
 
 -- the sequence number of the command that failed; 15 stands for that and each later one

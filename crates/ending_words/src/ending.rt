@@ -9,13 +9,14 @@ ghost use Rattle.report_lines.specs.Pieces.{Tells};
 use crate::digits::hex_number;
 use crate::phrases::{ALL_CARRIED_OUT, ASKED_FOR, CARD_ANSWERED, ENDED_AT, NO_SCRIPT, PULLED_OUT};
 use ber_tlv::Tag;
+use book_sections::{CUT, STATUS_REFERENCES, cause_reference};
 use emv_dict::Kind;
-use exchange_words::{LaneState, kind_name};
-use object_words::{tell_bit_word, tell_results};
-use report_lines::{EndFields, Ending, WordLines};
+use exchange_words::{LaneState, kind_name, tell_cited_reason};
+use object_words::{tell_bit_word, tell_response_words, tell_results};
+use report_lines::{EndFields, Ending, WordLines, word_of, word_of_text};
 use value_words::{
-    CAUSES, CRYPTOGRAMS, Form, RESPONSES, Reason, STATUS_BITS, STEPS, name_of, tell_performed_rule,
-    tell_reason, tell_status, word_of, word_of_text,
+    CAUSES, CRYPTOGRAMS, Form, Reason, STATUS_BITS, STEPS, name_of, tell_performed_rule,
+    tell_status,
 };
 
 /// The words of a step.
@@ -142,7 +143,7 @@ fn tell_cause(out: &mut WordLines, cause: &[u8])
     }
 }
 
-/// Tells that the terminal ended it, in a step and for a cause.
+/// Tells that the terminal ended it, in a step and for a cause, and where that stands.
 fn tell_terminated(out: &mut WordLines, step: &[u8], cause: &[u8], detail: &[u8])
     ensures { Tells out.old out.new (spec.terminated_words step.now cause.now detail.now) }
 {
@@ -152,6 +153,7 @@ fn tell_terminated(out: &mut WordLines, step: &[u8], cause: &[u8], detail: &[u8]
     out.text(b": ");
     tell_cause(out, cause);
     tell_detail(out, step, cause, detail);
+    out.reference_of(cause_reference(step, cause, detail));
 }
 
 /// Tells an ending that is no decision.
@@ -163,6 +165,7 @@ pub fn tell_break(out: &mut WordLines, ending: &Ending<'_>)
             out.line(1);
             out.text(PULLED_OUT);
             tell_step(out, step);
+            out.reference(CUT);
         }
         Ending::Terminated {
             step,
@@ -191,7 +194,7 @@ fn tell_decision(out: &mut WordLines, lane: &LaneState, asked: Kind, reason: Rea
     out.text(ASKED_FOR);
     out.text(kind_name(asked));
     out.text(b" because ");
-    tell_reason(out, reason, lane.second, lane.code.unwrap_or(*b"--"));
+    tell_cited_reason(out, reason, lane.second, lane.code.unwrap_or(*b"--"));
     tell_answered(out, lane.answered);
 }
 
@@ -241,7 +244,13 @@ fn tell_performed_word(out: &mut WordLines, place: u8)
     requires { place < 16 }
     ensures { Tells out.old out.new (spec.performed_word place) }
 {
-    tell_bit_word(out, &STATUS_BITS, u32::from(place / 8) + 1, 8 - place % 8);
+    tell_bit_word(
+        out,
+        &STATUS_BITS,
+        &STATUS_REFERENCES,
+        u32::from(place / 8) + 1,
+        8 - place % 8,
+    );
 }
 
 /// Tells the words of what was performed, commas between.
@@ -291,23 +300,6 @@ fn tell_verification(out: &mut WordLines, cvm: u64)
     tell_reached(out, cvm);
 }
 
-/// The words of a response code.
-fn response_word(code: u32) -> Option<&'static [u8]>
-    ensures { option_map (λ word. word.now) result ≡ spec.end_code_word code }
-{
-    word_of(&RESPONSES, code)
-}
-
-/// Tells the words of a response code.
-fn tell_code_words(out: &mut WordLines, code: u32)
-    ensures { Tells out.old out.new (spec.end_code_words code) }
-{
-    match response_word(code) {
-        Some(word) => out.text(word),
-        None => out.text(b"not known"),
-    }
-}
-
 /// Whether a code approves: the issuer's, or the terminal's.
 fn is_approving(arc: &[u8]) -> bool
     ensures { result ≡ spec.is_approving arc.now }
@@ -336,7 +328,7 @@ fn tell_code(out: &mut WordLines, declined: bool, arc: &[u8])
         out.text(b"code ");
         out.text(arc);
         out.text(b": ");
-        tell_code_words(out, u32::from(*first) * 256 + u32::from(*second));
+        tell_response_words(out, u32::from(*first) * 256 + u32::from(*second));
         tell_decliner(out, declined, arc);
     }
 }

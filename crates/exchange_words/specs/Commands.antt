@@ -3,7 +3,7 @@ use Rattle.std.specs.Prelude.{ℕ, ◌+◌, ◌*◌, ◌/◌, ◌%◌, ◌==◌,
 use Rattle.std.specs.Option.{option_or}
 use Rattle.std.specs.Str.{bytes_eq}
 use Rattle.value_words.specs.Reasons.{reason_of}
-use Rattle.value_words.specs.ReasonWords.{reason_words}
+use Rattle.book_sections.specs.References.{command_reference}
 use Rattle.value_words.specs.declared.asking.Asking.{Asking}
 use Rattle.value_words.specs.declared.asking.Row.{Row}
 use Rattle.apdu_core.specs.Command.{CommandData, command_of}
@@ -13,7 +13,7 @@ use Rattle.ber_tlv.specs.Written.{tag_bytes}
 use Rattle.emv_dict.specs.Digits.{is_pin_length}
 use Rattle.emv_dict.specs.Kinds.{kind_of}
 use Rattle.emv_dict.specs.declared.ending.Kind.{Kind}
-use Rattle.value_words.specs.Words.{word_in}
+use Rattle.report_lines.specs.Tables.{word_in}
 use Rattle.value_words.specs.declared.codes.TheConstants.{CRYPTOGRAMS}
 use Rattle.value_words.specs.declared.names.Form.{Form}
 use Rattle.value_words.specs.declared.names.Form.TheVariants.{Authentication}
@@ -24,11 +24,16 @@ use Rattle.object_words.specs.Objects.{name_of, plain, value_words}
 use Rattle.value_words.specs.Plain.{binary_number, or_nothing}
 use Rattle.object_words.specs.declared.style.ResultsStyle.TheVariants.{Codes}
 use Rattle.object_words.specs.declared.style.Style.{Style}
-use Rattle.report_lines.specs.Pieces.{Piece, line, text, number, hex, word_or}
+use Rattle.report_lines.specs.Pieces.{Piece, line, text, number, hex, word_or, reference_or_none}
 use Rattle.object_words.specs.Fields.{fields_words, new_fields_words}
+use Rattle.exchange_words.specs.Because.{cited_reason}
 use Rattle.exchange_words.specs.Lanes.{kept_if_short}
 use Rattle.exchange_words.specs.declared.lane.LaneState.{LaneState}
 use Rattle.exchange_words.specs.declared.phrases.TheConstants.{OTHER_COMMANDS}
+
+-- where a command of this class and instruction stands
+abbrev pub command_cited : ℕ → List Piece
+command_cited head = reference_or_none (command_reference head)
 
 -- SELECT (EMV 4.3 Book 1 section 11.3)
 abbrev pub selected_name : List ℕ → List Piece
@@ -47,7 +52,8 @@ options_data_words pdol brief (Some bytes) =
     else if brief then [] else fields_words (plain 2) pdol bytes
 
 abbrev pub options_words : List ℕ → List ℕ → Bool → List Piece
-options_words pdol body brief = line 1 ++ text (codes "GET PROCESSING OPTIONS") ++ options_data_words pdol brief (sole_value 0x83 (items_of body))
+options_words pdol body brief =
+    line 1 ++ text (codes "GET PROCESSING OPTIONS") ++ command_cited 0x80A8 ++ options_data_words pdol brief (sole_value 0x83 (items_of body))
 
 -- READ RECORD
 abbrev pub record_words : CommandData → List Piece
@@ -81,27 +87,35 @@ pin_words (control ∷ digits) =
 
 -- VERIFY
 abbrev pub verify_words : List ℕ → Bool → List Piece
-verify_words block brief = line 1 ++ text (codes "VERIFY") ++ (if brief then [] else pin_words block)
+verify_words block brief = line 1 ++ text (codes "VERIFY") ++ command_cited 0x0020 ++ (if brief then [] else pin_words block)
 
 -- EXTERNAL AUTHENTICATE
 abbrev pub external_words : List ℕ → Bool → List Piece
 external_words body brief =
-    line 1 ++ text (codes "EXTERNAL AUTHENTICATE") ++ (if brief then [] else text (codes ": ") ++ value_words Authentication (plain 1) body)
+    line 1 ++ text (codes "EXTERNAL AUTHENTICATE") ++ command_cited 0x0082
+    ++ (if brief then [] else text (codes ": ") ++ value_words Authentication (plain 1) body)
 
 -- a command of which the name alone is told, by its class and instruction
 unfoldable pub name_of_command : ℕ → Option (List ℕ)
 name_of_command head = word_in (map (λ w. (w.0, w.1.now)) OTHER_COMMANDS) head
 
+abbrev pub command_head : CommandData → ℕ
+command_head command = command.class * 256 + command.ins
+
+abbrev pub name_and_reference : ℕ → Option (List ℕ) → List Piece
+name_and_reference head None = []
+name_and_reference head (Some name) = text name ++ command_cited head
+
 abbrev pub named_command_words : CommandData → List Piece
-named_command_words command = word_or [] (name_of_command (command.class * 256 + command.ins))
+named_command_words command = name_and_reference (command_head command) (name_of_command (command_head command))
 
 -- a command of an issuer's script, or one of which the name alone is told
-abbrev pub issuer_script_words : Option (List Piece) → List Piece → List Piece
-issuer_script_words None name = name
-issuer_script_words (Some words) name = words ++ text (codes " (issuer script)")
+abbrev pub issuer_script_words : Option (List Piece) → ℕ → List Piece → List Piece
+issuer_script_words None head name = name
+issuer_script_words (Some words) head name = words ++ text (codes " (issuer script)") ++ command_cited head
 
 abbrev pub other_command_words : List ℕ → CommandData → List Piece
-other_command_words bytes command = issuer_script_words (script_command_words bytes) (named_command_words command)
+other_command_words bytes command = issuer_script_words (script_command_words bytes) (command_head command) (named_command_words command)
 
 -- the fields of the data of GENERATE AC: those of the second beside those of the first
 abbrev pub question_style : LaneState → Option Row → Style
@@ -151,7 +165,7 @@ abbrev pub because_words : LaneState → Option Row → Option Kind → List Pie
 because_words lane row None = []
 because_words lane row (Some kind) =
     line 1 ++ text (codes "because ")
-    ++ reason_words (reason_of (asking lane kind row)) (nat_lt 0 lane.cryptograms) (unwrap_or lane.code (codes "--"))
+    ++ cited_reason (reason_of (asking lane kind row)) (nat_lt 0 lane.cryptograms) (unwrap_or lane.code (codes "--"))
 
 -- GENERATE AC: what is asked for, the fields of its data, and why (EMV 4.3 Book 3 sections 6.5.5 and 10.7)
 abbrev pub question_head : LaneState → List Piece
@@ -160,7 +174,7 @@ question_head lane =
 
 abbrev pub cryptogram_question_words : LaneState → CommandData → Option Row → Bool → List Piece
 cryptogram_question_words lane command row brief =
-    question_head lane ++ word_or [] (word_in (map (λ w. (w.0, w.1.now)) CRYPTOGRAMS) (command.p1 / 64 * 64))
+    question_head lane ++ word_or [] (word_in (map (λ w. (w.0, w.1.now)) CRYPTOGRAMS) (command.p1 / 64 * 64)) ++ command_cited 0x80AE
     ++ (if brief then [] else question_fields lane command.body row)
 
 abbrev pub question_words : LaneState → CommandData → Option Row → Bool → List Piece
@@ -170,8 +184,8 @@ question_words lane command row brief =
 -- a command of the class 00, and one of the class 80
 abbrev pub common_words : CommandData → Bool → List Piece
 common_words command brief =
-    if command.ins == 0xA4 then select_words command
-    else if command.ins == 0xB2 then record_words command
+    if command.ins == 0xA4 then select_words command ++ command_cited 0x00A4
+    else if command.ins == 0xB2 then record_words command ++ command_cited 0x00B2
     else if command.ins == 0x20 then verify_words command.body brief
     else if command.ins == 0x82 then external_words command.body brief
     else named_command_words command
@@ -179,7 +193,7 @@ common_words command brief =
 abbrev pub own_words : LaneState → CommandData → Option Row → Bool → List Piece
 own_words lane command row brief =
     if command.ins == 0xA8 then options_words lane.pdol.items command.body brief
-    else if command.ins == 0xCA then get_data_words command
+    else if command.ins == 0xCA then get_data_words command ++ command_cited 0x80CA
     else if command.ins == 0xAE then question_words lane command row brief
     else named_command_words command
 

@@ -1,4 +1,5 @@
 pub mod Answers
+pub mod Because
 pub mod Commands
 pub mod Kinds
 pub mod Lanes

@@ -1,6 +1,7 @@
 -- A command that the card was pulled out before it had answered (EMV 4.3 Book 3 section 6.5).
-use Rattle.std.specs.Prelude.{ℕ, ◌==◌, Bool, not, ◌&&◌, ◌||◌, nat_le, if◌then◌else◌, List, [], ◌++◌, length, slice_index, codes, Option, Some, None}
+use Rattle.std.specs.Prelude.{ℕ, ◌+◌, ◌*◌, ◌==◌, Bool, not, ◌&&◌, ◌||◌, nat_le, if◌then◌else◌, List, [], ◌++◌, length, slice_index, codes, Option, Some, None}
 use Rattle.report_lines.specs.Pieces.{Piece, line, text}
+use Rattle.exchange_words.specs.Commands.{command_cited}
 use Rattle.exchange_words.specs.declared.phrases.TheConstants.{NO_ANSWER_YET, MAY_BE_KEPT}
 
 -- a command of this class and this instruction
@@ -28,10 +29,14 @@ command_name command =
 unfoldable pub may_keep : List ℕ → Bool
 may_keep command = not (has_instruction 0x00 0xA4 command || has_instruction 0x00 0xB2 command || has_instruction 0x80 0xCA command)
 
+-- where it stands
+abbrev pub sent_cited : List ℕ → List Piece
+sent_cited command = (if nat_le 2 (length command) then command_cited (slice_index command 0 * 256 + slice_index command 1) else [])
+
 abbrev pub left_open : List ℕ → Option (List ℕ) → List Piece
 left_open command None = []
 left_open command (Some name) =
-    text (codes " ") ++ text name ++ (if may_keep command then text MAY_BE_KEPT.now else [])
+    text (codes " ") ++ text name ++ sent_cited command ++ (if may_keep command then text MAY_BE_KEPT.now else [])
 
 -- the card was pulled out before it had answered
 abbrev pub torn_words : List ℕ → List Piece

@@ -13,10 +13,18 @@ use crate::lane::{LaneState, keep};
 use crate::phrases::OTHER_COMMANDS;
 use apdu_core::{Command, read_command};
 use ber_tlv::{Tag, sole_value, tag_bytes};
+use book_sections::command_reference;
 use emv_dict::is_pin_length;
 use object_words::{Style, tell_fields, tell_script_command, tell_value};
-use report_lines::WordLines;
-use value_words::{Fields, Form, Row, digits_in, name_of, tell_digits, word_of};
+use report_lines::{WordLines, word_of};
+use value_words::{Fields, Form, Row, digits_in, name_of, tell_digits};
+
+/// Tells where a command stands, by its class and instruction.
+pub(crate) fn tell_command_reference(out: &mut WordLines, head: u32)
+    ensures { Tells out.old out.new (words.command_cited head) }
+{
+    out.reference_of(command_reference(head));
+}
 
 /// Tells the name of SELECT.
 fn tell_selected_name(out: &mut WordLines, name: &[u8])
@@ -65,6 +73,7 @@ fn tell_options(out: &mut WordLines, lane: &LaneState, body: &[u8], brief: bool)
 {
     out.line(1);
     out.text(b"GET PROCESSING OPTIONS");
+    tell_command_reference(out, 0x80a8);
     tell_options_data(
         out,
         lane.pdol.as_slice(),
@@ -134,6 +143,7 @@ fn tell_verify(out: &mut WordLines, block: &[u8], brief: bool)
 {
     out.line(1);
     out.text(b"VERIFY");
+    tell_command_reference(out, 0x0020);
     if !brief {
         tell_pin(out, block);
     }
@@ -145,6 +155,7 @@ fn tell_external(out: &mut WordLines, body: &[u8], brief: bool)
 {
     out.line(1);
     out.text(b"EXTERNAL AUTHENTICATE");
+    tell_command_reference(out, 0x0082);
     if !brief {
         out.text(b": ");
         tell_value(out, Form::Authentication, body, &Style::plain(1));
@@ -162,8 +173,10 @@ fn name_of_command(head: u32) -> Option<&'static [u8]>
 fn tell_command_name(out: &mut WordLines, command: &Command<'_>)
     ensures { Tells out.old out.new (words.named_command_words (seen_command command.now)) }
 {
-    if let Some(name) = name_of_command(u32::from(command.class) * 256 + u32::from(command.ins)) {
+    let head = u32::from(command.class) * 256 + u32::from(command.ins);
+    if let Some(name) = name_of_command(head) {
         out.text(name);
+        tell_command_reference(out, head);
     }
 }
 
@@ -173,6 +186,8 @@ fn tell_other(out: &mut WordLines, bytes: &[u8], command: &Command<'_>)
 {
     if tell_script_command(out, bytes) {
         out.text(b" (issuer script)");
+        let head = u32::from(command.class) * 256 + u32::from(command.ins);
+        tell_command_reference(out, head);
     } else {
         tell_command_name(out, command);
     }
@@ -191,7 +206,10 @@ fn tell_own(
 {
     match command.ins {
         0xa8 => tell_options(out, lane, command.body, brief),
-        0xca => tell_get_data(out, command),
+        0xca => {
+            tell_get_data(out, command);
+            tell_command_reference(out, 0x80ca);
+        }
         0xae => tell_question(out, lane, command, row, brief),
         _ => tell_command_name(out, command),
     }
@@ -211,8 +229,14 @@ fn tell_common(out: &mut WordLines, command: &Command<'_>, brief: bool)
     ensures { Tells out.old out.new (words.common_words (seen_command command.now) brief) }
 {
     match command.ins {
-        0xa4 => tell_select(out, command),
-        0xb2 => tell_record(out, command),
+        0xa4 => {
+            tell_select(out, command);
+            tell_command_reference(out, 0x00a4);
+        }
+        0xb2 => {
+            tell_record(out, command);
+            tell_command_reference(out, 0x00b2);
+        }
         0x20 => tell_verify(out, command.body, brief),
         0x82 => tell_external(out, command.body, brief),
         _ => tell_command_name(out, command),

@@ -2,20 +2,20 @@
 ghost use Rattle.std.specs.Prelude.{◌≡◌, [], map, ◌*◌, ◌/◌, Some};
 ghost use Rattle.apdu_core.specs.Seen.{seen_command};
 ghost use Rattle.emv_dict.specs.Kinds.{kind_of};
-ghost use Rattle.value_words.specs.Words.{word_in};
+ghost use Rattle.report_lines.specs.Tables.{word_in};
 ghost use Rattle.value_words.specs.declared.codes.TheConstants as table;
 ghost use Rattle.report_lines.specs.Pieces.{Tells, word_or};
 ghost use Rattle.exchange_words.specs.Commands as words;
 
+use crate::because::tell_cited_reason;
+use crate::command::tell_command_reference;
 use crate::lane::{LaneState, keep};
 use apdu_core::Command;
 use ber_tlv::Tag;
 use emv_dict::Kind;
 use object_words::{KnownCodes, ResultsStyle, Style, tell_fields, tell_fields_beside};
-use report_lines::WordLines;
-use value_words::{
-    Asking, CRYPTOGRAMS, Fields, Row, fits, number_in, reason_of, tell_reason, value_in, word_of,
-};
+use report_lines::{WordLines, word_of};
+use value_words::{Asking, CRYPTOGRAMS, Fields, Row, fits, number_in, reason_of, value_in};
 
 /// The terminal verification results in the data, where the list has them and wants just these data.
 fn sent_results(list: &[u8], sent: &[u8]) -> Option<u64>
@@ -113,7 +113,7 @@ fn tell_because(out: &mut WordLines, lane: &mut LaneState, kind: Kind, row: Opti
     lane.answered = None;
     out.line(1);
     out.text(b"because ");
-    tell_reason(out, reason, lane.second, lane.code.unwrap_or(*b"--"));
+    tell_cited_reason(out, reason, lane.second, lane.code.unwrap_or(*b"--"));
 }
 
 /// Tells which question this is.
@@ -149,6 +149,7 @@ fn tell_asked(
 {
     tell_head(out, lane);
     tell_wanted(out, command.p1);
+    tell_command_reference(out, 0x80ae);
     if !brief {
         tell_question_fields(out, lane, command.body, row);
     }

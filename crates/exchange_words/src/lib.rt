@@ -4,6 +4,7 @@
 #![tactic(auto)]
 
 pub mod answer;
+pub mod because;
 pub mod body;
 pub mod command;
 pub mod cryptogram;
@@ -15,6 +16,7 @@ pub mod terminal;
 pub mod torn;
 
 pub use answer::tell_answer;
+pub use because::tell_cited_reason;
 pub use command::tell_command;
 pub use cryptogram::first_fields;
 pub use kind::{kind_name, tell_kind};

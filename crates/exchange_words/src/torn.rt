@@ -3,6 +3,7 @@ ghost use Rattle.std.specs.Prelude.{◌≡◌, option_map};
 ghost use Rattle.exchange_words.specs.Torn as spec;
 ghost use Rattle.report_lines.specs.Pieces.{Tells};
 
+use crate::command::tell_command_reference;
 use crate::phrases::{MAY_BE_KEPT, NO_ANSWER_YET};
 use report_lines::WordLines;
 
@@ -62,6 +63,15 @@ fn may_keep(command: &[u8]) -> bool
         || is_command(0x80, 0xca, command))
 }
 
+/// Tells where a command stands.
+fn tell_sent_reference(out: &mut WordLines, command: &[u8])
+    ensures { Tells out.old out.new (spec.sent_cited command.now) }
+{
+    if let [class, instruction, ..] = command {
+        tell_command_reference(out, u32::from(*class) * 256 + u32::from(*instruction));
+    }
+}
+
 /// Tells the command that was left without an answer, where it has a name.
 fn tell_left_open(out: &mut WordLines, command: &[u8])
     ensures { Tells out.old out.new (spec.left_open command.now (spec.command_name command.now)) }
@@ -69,6 +79,7 @@ fn tell_left_open(out: &mut WordLines, command: &[u8])
     if let Some(name) = command_name(command) {
         out.text(b" ");
         out.text(name);
+        tell_sent_reference(out, command);
         if may_keep(command) {
             out.text(MAY_BE_KEPT);
         }

@@ -87,24 +87,24 @@ so_far_push all long p seen b first held other s = record {
   shown = s.shown;
   no_line = subst HasNoNewline (append_assoc s.head p (b ∷ [])) (no_newline-push (s.head ++ p) b other s.no_line);
   short = s.short;
-  many = s.many;
+  many = λ e. omega (arith, s.many e, length-append s.head p, length-append s.head (p ++ b ∷ []), length-append p (b ∷ []));
   seen_is = ap (λ (t : List ℕ). t ++ b ∷ []) s.seen_is ∙ append_assoc (flat_map input_line s.told) (s.head ++ p) (b ∷ [])
       ∙ ap (λ (t : List ℕ). flat_map input_line s.told ++ t) (append_assoc s.head p (b ∷ []));
   written = s.written;
 }
 
--- what came of a line that is too long was handed on
-pub so_far_flush : (all : Way) (long : Stand) (p seen : List ℕ) (first old new : Option (List ℕ)) → most_told ≤ length p → IsReportSoFar all p long seen first old → Appends old new (rest_behind_lines all.all p)
-    → IsReportSoFar all [] (longer long) seen first new
-so_far_flush all long p seen first old new enough s more = record {
+-- what came of a line was handed on, and a byte more has come, with which it is too long
+pub so_far_flush : (all : Way) (long : Stand) (p seen : List ℕ) (b : ℕ) (first old new : Option (List ℕ)) → most_told ≤ length p → b ≢ 10 → IsReportSoFar all p long seen first old
+    → Appends old new (rest_behind_lines all.all p) → IsReportSoFar all (b ∷ []) (longer long) (seen ++ b ∷ []) first new
+so_far_flush all long p seen b first old new enough other s more = record {
   told = s.told;
   head = s.head ++ p;
   lines = s.lines;
   shown = s.shown;
-  no_line = subst HasNoNewline (sym (append-nil (s.head ++ p))) s.no_line;
+  no_line = no_newline-push (s.head ++ p) b other s.no_line;
   short = λ e. absurd (false≢true (sym e));
-  many = λ e. omega (arith, length-append s.head p);
-  seen_is = s.seen_is ∙ ap (λ (t : List ℕ). flat_map input_line s.told ++ t) (sym (append-nil (s.head ++ p)));
+  many = λ e. omega (arith, length-append s.head p, length-append (s.head ++ p) (b ∷ []));
+  seen_is = ap (λ (t : List ℕ). t ++ b ∷ []) s.seen_is ∙ append_assoc (flat_map input_line s.told) (s.head ++ p) (b ∷ []);
   written = subst (λ (t : List ℕ). Appends first new t)
       (append_assoc (flat_map line_and_words s.told) (rest_behind_lines all.all s.head) (rest_behind_lines all.all p) ∙ ap (λ (t : List ℕ). flat_map line_and_words s.told ++ t) (sym (rest_behind_lines-append all.all s.head p)))
       (Appends-more first old new (flat_map line_and_words s.told ++ rest_behind_lines all.all s.head) (rest_behind_lines all.all p) s.written more);
@@ -217,12 +217,13 @@ stopped_line all long after p seen words piece shown first old new s e more =
     }
 
 -- a line that is not too long is handed on whole, with its words
-pub ends_short : (all : Way) (before after : StateData) (shown : Bool) (head p words : List ℕ) → head ≡ [] → AreWordLines words
+pub ends_short : (all : Way) (before after : StateData) (shown : Bool) (head p words : List ℕ) → head ≡ [] → length p ≤ most_told → AreWordLines words
     → Narrates all.manner p before words after → shown ≡ (is_text_left all.manner.filter before p || all.all) → (all.all ≡ true → shown ≡ true)
     → EndsLine all before after head p words shown (cond shown ((p ++ 10 ∷ []) ++ words) [])
-ends_short all before after shown head p words none lines made left kept = record {
+ends_short all before after shown head p words none few lines made left kept = record {
   word_lines = lines;
   made = inl (record {
+    few = subst (λ (h : List ℕ). length (h ++ p) ≤ most_told) (sym none) few;
     narrates = subst (λ (h : List ℕ). Narrates all.manner (h ++ p) before words after) (sym none) made;
     left = subst (λ (h : List ℕ). shown ≡ (is_text_left all.manner.filter before (h ++ p) || all.all)) (sym none) left;
   });
@@ -238,11 +239,11 @@ long_told : (all : Bool) (state : StateData) (head p : List ℕ)
 long_told true state head p = sym (append_assoc head p (10 ∷ [])) ∙ sym (append-nil ((head ++ p) ++ 10 ∷ []))
 long_told false state head p = refl
 
-pub ends_long : (all : Way) (state : StateData) (head p : List ℕ) → most_told ≤ length head
+pub ends_long : (all : Way) (state : StateData) (head p : List ℕ) → most_told < length (head ++ p)
     → EndsLine all state state head p [] all.all (rest_behind_lines all.all (p ++ 10 ∷ []))
 ends_long all state head p enough = record {
   word_lines = no_words;
-  made = inr (record { many = omega (arith, length-append head p); no_words = refl; same = refl; left = refl });
+  made = inr (record { many = enough; no_words = refl; same = refl; left = refl });
   kept = λ e. e;
   told = long_told all.all state head p;
 }
@@ -257,11 +258,11 @@ pub stopped_at : (all : Way) (long : Stand) (p seen text : List ℕ) (first old 
 stopped_at all long p seen text first old new e s more =
     stopped all long p seen first old new s (subst (λ (t : List ℕ). AppendsFront old new (rest_behind_lines all.all t)) e more)
 
-pub so_far_flush_at : (all : Way) (long : Stand) (p seen text empty : List ℕ) (first old new : Option (List ℕ)) → text ≡ p → empty ≡ [] → most_told ≤ length p → IsReportSoFar all p long seen first old
-    → Appends old new (rest_behind_lines all.all text) → IsReportSoFar all empty (longer long) seen first new
-so_far_flush_at all long p seen text empty first old new e none enough s more =
-    subst (λ (t : List ℕ). IsReportSoFar all t (longer long) seen first new) (sym none)
-    (so_far_flush all long p seen first old new enough s (subst (λ (t : List ℕ). Appends old new (rest_behind_lines all.all t)) e more))
+pub so_far_flush_at : (all : Way) (long : Stand) (p seen text empty : List ℕ) (b : ℕ) (first old new : Option (List ℕ)) → text ≡ p → empty ≡ [] → most_told ≤ length p → b ≢ 10
+    → IsReportSoFar all p long seen first old → Appends old new (rest_behind_lines all.all text) → IsReportSoFar all (empty ++ b ∷ []) (longer long) (seen ++ b ∷ []) first new
+so_far_flush_at all long p seen text empty b first old new e none enough other s more =
+    subst (λ (t : List ℕ). IsReportSoFar all (t ++ b ∷ []) (longer long) (seen ++ b ∷ []) first new) (sym none)
+    (so_far_flush all long p seen b first old new enough other s (subst (λ (t : List ℕ). Appends old new (rest_behind_lines all.all t)) e more))
 
 pub so_far_long_at : (all : Way) (long : Stand) (p seen text empty : List ℕ) (first old new : Option (List ℕ)) → text ≡ p → empty ≡ [] → long.long ≡ true
     → IsReportSoFar all p long seen first old → Appends old new (rest_behind_lines all.all (text ++ 10 ∷ [])) → IsReportSoFar all empty (behind long.state) (seen ++ 10 ∷ []) first new
@@ -282,10 +283,15 @@ short_piece shown text words = cond shown ((text ++ 10 ∷ []) ++ words) []
 
 -- what is told of a short line: its words, and what it leaves
 pub record IsSaid (all : Way) (before after : StateData) (p words : List ℕ) (shown : Bool) : Type 0 where
+  pub few : length p ≤ most_told
   pub lines : AreWordLines words
   pub made : Narrates all.manner p before words after
   pub left : shown ≡ (is_text_left all.manner.filter before p || all.all)
   pub kept : shown ≡ false → all.all ≡ false
+
+-- a line is no longer than the room that it stands in
+pub few_said : (p p' text : List ℕ) → p' ≡ p → text ≡ p' → length text ≤ most_told → length p ≤ most_told
+few_said p p' text e e' few = subst (λ (t : List ℕ). length t ≤ most_told) (e' ∙ e) few
 
 pub so_far_short_at : (all : Way) (long : Stand) (after : StateData) (shown : Bool) (p seen text words empty : List ℕ) (first old new : Option (List ℕ)) → text ≡ p → empty ≡ []
     → long.long ≡ false → IsSaid all long.state after p words shown → IsReportSoFar all p long seen first old → Appends old new (short_piece shown text words)
@@ -293,7 +299,7 @@ pub so_far_short_at : (all : Way) (long : Stand) (after : StateData) (shown : Bo
 so_far_short_at all long after shown p seen text words empty first old new e none short said s more =
     subst (λ (t : List ℕ). IsReportSoFar all t (behind after) (seen ++ 10 ∷ []) first new) (sym none)
     (so_far_line all long after p seen words (short_piece shown p words) shown first old new s
-    (ends_short all long.state after shown s.head p words (s.short short) said.lines said.made said.left (kept_shown all.all shown said.kept))
+    (ends_short all long.state after shown s.head p words (s.short short) said.few said.lines said.made said.left (kept_shown all.all shown said.kept))
     (subst (λ (t : List ℕ). Appends old new (short_piece shown t words)) e more))
 
 pub stopped_short_at : (all : Way) (long : Stand) (after : StateData) (shown : Bool) (p seen text words : List ℕ) (first old new : Option (List ℕ)) → text ≡ p → long.long ≡ false
@@ -301,7 +307,7 @@ pub stopped_short_at : (all : Way) (long : Stand) (after : StateData) (shown : B
     → TellingWasStopped all (seen ++ 10 ∷ []) first new
 stopped_short_at all long after shown p seen text words first old new e short said s more =
     stopped_line all long after p seen words (short_piece shown p words) shown first old new s
-    (ends_short all long.state after shown s.head p words (s.short short) said.lines said.made said.left (kept_shown all.all shown said.kept))
+    (ends_short all long.state after shown s.head p words (s.short short) said.few said.lines said.made said.left (kept_shown all.all shown said.kept))
     (subst (λ (t : List ℕ). AppendsFront old new (short_piece shown t words)) e more)
 
 -- no memory for the words of a line: nothing of it was handed on, and it is not explained
@@ -333,11 +339,6 @@ stopped_take all seen bytes i b (suc taken) first held within here s = (
       (append_assoc seen (take i bytes) (b ∷ []) ∙ ap (λ (t : List ℕ). seen ++ t) (ap (λ y. take i bytes ++ y ∷ []) here ∙ sym (take_more bytes i 0 within)))
       (subst (λ (t : List ℕ). TellingWasStopped all ((seen ++ take i bytes) ++ b ∷ t) first held) (take-none taken) s),
 )
-
-pub so_far_push_at : (all : Way) (long : Stand) (p seen pushed : List ℕ) (b : ℕ) (first held : Option (List ℕ)) → b ≢ 10 → pushed ≡ p ++ b ∷ []
-    → IsReportSoFar all p long seen first held → IsReportSoFar all pushed long (seen ++ b ∷ []) first held
-so_far_push_at all long p seen pushed b first held other e s =
-    subst (λ (t : List ℕ). IsReportSoFar all t long (seen ++ b ∷ []) first held) (sym e) (so_far_push all long p seen b first held other s)
 
 -- a short line, with the teller's values behind its words
 pub so_far_short_told : (all : Way) (long : Stand) (all' : Way) (long' : Stand) (after : StateData) (shown : Bool) (p p' seen text words told empty : List ℕ) (first old new : Option (List ℕ))

@@ -20,13 +20,13 @@ of_empty_word = refl
 
 -- each filter, in two orders
 abbrev all_filters : Manner
-all_filters = record { filter = record { brief = true; why = true; ends = true; lane = Some 15; purchase = Some 7 }; terminals = []; card_apps = []; accounts = [] }
+all_filters = record { filter = record { brief = true; why = true; books = true; ends = true; lane = Some 15; purchase = Some 7 }; terminals = []; card_apps = []; accounts = [] }
 
-pub of_filters : manner_of_words (codes "--brief" ∷ codes "--why" ∷ codes "--ends" ∷ codes "--lane" ∷ codes "15" ∷ codes "--purchase" ∷ codes "7" ∷ []) ≡ Some all_filters
+pub of_filters : manner_of_words (codes "--brief" ∷ codes "--why" ∷ codes "--books" ∷ codes "--ends" ∷ codes "--lane" ∷ codes "15" ∷ codes "--purchase" ∷ codes "7" ∷ []) ≡ Some all_filters
 unfolding manner_of_words options_given option_alone option_with_argument decimal_number
 of_filters = refl
 
-pub of_filters_turned : manner_of_words (codes "--purchase" ∷ codes "7" ∷ codes "--lane" ∷ codes "15" ∷ codes "--ends" ∷ codes "--brief" ∷ codes "--why" ∷ []) ≡ Some all_filters
+pub of_filters_turned : manner_of_words (codes "--purchase" ∷ codes "7" ∷ codes "--lane" ∷ codes "15" ∷ codes "--ends" ∷ codes "--brief" ∷ codes "--books" ∷ codes "--why" ∷ []) ≡ Some all_filters
 unfolding manner_of_words options_given option_alone option_with_argument decimal_number
 of_filters_turned = refl
 

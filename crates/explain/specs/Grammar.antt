@@ -17,7 +17,7 @@ use Rattle.report_lines.specs.Bytes.{decoded_hex}
 use Rattle.report_lines.specs.Parts.{split_comma, decimal_number}
 use Rattle.report_lines.specs.Reading.{lane_in}
 use Rattle.explain.specs.declared.options.OptionGiven.{OptionGiven}
-use Rattle.explain.specs.declared.options.OptionGiven.TheVariants.{Brief, Ends, Why, Lane, Purchase, OneTerminal, OneApp, OneAccount}
+use Rattle.explain.specs.declared.options.OptionGiven.TheVariants.{Brief, Ends, Why, Books, Lane, Purchase, OneTerminal, OneApp, OneAccount}
 use Rattle.explain.specs.declared.options.NoOptions.{NoOptions}
 use Rattle.explain.specs.declared.options.NoOptions.TheVariants.{Words, OutOfMemory}
 
@@ -168,6 +168,7 @@ option_alone word =
     if bytes_eq word (codes "--brief") then Some Brief
     else if bytes_eq word (codes "--ends") then Some Ends
     else if bytes_eq word (codes "--why") then Some Why
+    else if bytes_eq word (codes "--books") then Some Books
     else None
 
 -- the option of a word and its argument
@@ -208,6 +209,10 @@ abbrev pub why_in : OptionGiven → List Bool
 why_in Why = true ∷ []
 why_in _ = []
 
+abbrev pub books_in : OptionGiven → List Bool
+books_in Books = true ∷ []
+books_in _ = []
+
 abbrev pub lane_given : OptionGiven → List ℕ
 lane_given (Lane number) = number ∷ []
 lane_given _ = []
@@ -239,22 +244,24 @@ abbrev pub at_most_once : List Bool → Option Bool
 at_most_once given = option_map is_some (at_most_one given)
 
 -- what is asked for, where none but the terminals, the cards and the accounts are more than one
-abbrev pub manner_by : List Bool → List Bool → List Bool → List ℕ → List ℕ → List Terminal → List CardApp → List Account → Option Manner
-manner_by briefs ends whys lanes purchases terminals apps accounts = do
+abbrev pub manner_by : List Bool → List Bool → List Bool → List Bool → List ℕ → List ℕ → List Terminal → List CardApp → List Account → Option Manner
+manner_by briefs ends whys books lanes purchases terminals apps accounts = do
   brief ← at_most_once briefs
   only_ends ← at_most_once ends
   why ← at_most_once whys
+  with_books ← at_most_once books
   lane ← at_most_one lanes
   purchase ← at_most_one purchases
-  Some (record { filter = record { brief = brief; why = why; ends = only_ends; lane = lane; purchase = purchase }; terminals = terminals; card_apps = apps; accounts = accounts })
+  Some (record { filter = record { brief = brief; why = why; books = with_books; ends = only_ends; lane = lane; purchase = purchase }; terminals = terminals; card_apps = apps; accounts = accounts })
 
 -- what is asked for, in any order: each option but `--terminal`, `--card` and `--account` at most once
 abbrev pub manner_of_options : List OptionGiven → Option Manner
 manner_of_options given =
-    manner_by (flat_map brief_in given) (flat_map ends_in given) (flat_map why_in given) (flat_map lane_given given) (flat_map purchase_given given)
+    manner_by (flat_map brief_in given) (flat_map ends_in given) (flat_map why_in given) (flat_map books_in given)
+    (flat_map lane_given given) (flat_map purchase_given given)
     (flat_map terminal_given given) (flat_map app_given given) (flat_map account_given given)
 
--- what the words ask for: `[--brief] [--ends] [--why] [--lane N] [--purchase N] [--terminal T]... [--card T]... [--account T]...`
+-- what the words ask for: `[--brief] [--ends] [--why] [--books] [--lane N] [--purchase N] [--terminal T]... [--card T]... [--account T]...`
 unfoldable pub manner_of_words : List (List ℕ) → Option Manner
 manner_of_words words = do
   given ← options_given words

@@ -1,4 +1,5 @@
 pub mod ReportSoFar
+pub mod Statuses
 pub mod Grammar
 pub mod Reading
 pub mod Taking

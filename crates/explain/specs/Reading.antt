@@ -46,4 +46,4 @@ BrokenOffAsAsked words left left_after held held_after =
 
 -- the line that answers words which are not in the grammar
 abbrev pub explain_usage_line : List ℕ
-explain_usage_line = codes "usage: explain [--brief] [--ends] [--why] [--lane N] [--purchase N] [--terminal T]... [--card T]... [--account T]...\n"
+explain_usage_line = codes "usage: explain [--brief] [--ends] [--why] [--books] [--lane N] [--purchase N] [--terminal T]... [--card T]... [--account T]...\n"

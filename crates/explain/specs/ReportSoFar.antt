@@ -1,5 +1,5 @@
 -- How far a report has come, and what of it was handed on.
-use Rattle.std.specs.Prelude.{ℕ, ◌≡◌, ◌≤◌, Bool, true, false, List, [], ◌++◌, length, Result, Ok, Err}
+use Rattle.std.specs.Prelude.{ℕ, ◌≡◌, ◌<◌, Bool, true, false, List, [], ◌++◌, length, Result, Ok, Err}
 use Rattle.std.specs.List.{All, flat_map}
 use Rattle.std.specs.declared.option.Option.{Option}
 use Rattle.std.specs.Io.KnownBytes.{Appends}
@@ -32,7 +32,7 @@ pub record IsReportSoFar (way : Way) (pending : List ℕ) (stand : Stand) (seen 
   pub shown : way.all ≡ true → All (λ t. t.shown ≡ true) told
   pub no_line : HasNoNewline (head ++ pending)
   pub short : stand.long ≡ false → head ≡ []
-  pub many : stand.long ≡ true → most_told ≤ length head
+  pub many : stand.long ≡ true → most_told < length (head ++ pending)
   pub seen_is : seen ≡ flat_map input_line told ++ (head ++ pending)
   pub written : Appends first held (flat_map line_and_words told ++ rest_behind_lines way.all head)
 

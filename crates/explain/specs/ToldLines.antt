@@ -34,7 +34,7 @@ way_of options = way_by (manner_in options)
 
 -- every line with all its words
 abbrev pub unfiltered : Filter
-unfiltered = record { brief = false; why = false; ends = false; lane = None; purchase = None }
+unfiltered = record { brief = false; why = false; books = false; ends = false; lane = None; purchase = None }
 
 -- each line, with all words, where nothing is known of terminals, cards and accounts
 abbrev pub whole_way : Way
@@ -54,13 +54,14 @@ pub record ToldLine : Type 0 where
 
 -- a line that is too long to be told has no words, leaves what was, and is left where all are
 pub record IsUntold (way : Way) (before : StateData) (told : ToldLine) : Type 0 where
-  pub many : most_told ≤ length told.text
+  pub many : most_told < length told.text
   pub no_words : told.words ≡ []
   pub same : told.after ≡ before
   pub left : told.shown ≡ way.all
 
 -- another one has its words and leaves its state, behind this one; whether it is left is the filter's
 pub record IsNarrated (way : Way) (before : StateData) (told : ToldLine) : Type 0 where
+  pub few : length told.text ≤ most_told
   pub narrates : Narrates way.manner told.text before told.words told.after
   pub left : told.shown ≡ (is_text_left way.manner.filter before told.text || way.all)
 

@@ -34,6 +34,8 @@ pub enum OptionGiven {
     Ends,
     /// `--why`
     Why,
+    /// `--books`
+    Books,
     /// `--lane N`
     Lane(u8),
     /// `--purchase N`
@@ -270,6 +272,7 @@ fn read_alone(word: &String) -> Option<OptionGiven>
         "--brief" => Some(OptionGiven::Brief),
         "--ends" => Some(OptionGiven::Ends),
         "--why" => Some(OptionGiven::Why),
+        "--books" => Some(OptionGiven::Books),
         _ => None,
     }
 }
@@ -310,6 +313,7 @@ fn take(options: &mut Options, given: OptionGiven) -> Result<(), NoOptions>
         OptionGiven::Brief => take_flag(&mut options.filter.brief),
         OptionGiven::Ends => take_flag(&mut options.filter.ends),
         OptionGiven::Why => take_flag(&mut options.filter.why),
+        OptionGiven::Books => take_flag(&mut options.filter.books),
         OptionGiven::Lane(lane) => {
             if options.filter.lane.is_some() {
                 return Err(NoOptions::Words);
@@ -397,7 +401,7 @@ fn take_options(options: Options, words: &[String]) -> Result<Options, NoOptions
     Ok(options)
 }
 
-/// Reads `[--brief] [--ends] [--why] [--lane N] [--purchase N] [--terminal T]... [--card T]...
+/// Reads `[--brief] [--ends] [--why] [--books] [--lane N] [--purchase N] [--terminal T]... [--card T]...
 /// [--account T]...`, in any order.
 #[tactic(auto, unfolding(crate::specs::Grammar::manner_of_words, crate::specs::Taking::options_behind))]
 pub fn read_options(alloc: Global, words: &[String]) -> Result<Options, NoOptions>
@@ -410,6 +414,7 @@ pub fn read_options(alloc: Global, words: &[String]) -> Result<Options, NoOption
         filter: Filter {
             brief: false,
             why: false,
+            books: false,
             ends: false,
             lane: None,
             purchase: None,

@@ -34,7 +34,7 @@ fn run_of(
     let mut source = MemorySource::slow(bytes, fails.0.to_vec(alloc)?, 5);
     let mut sink = MemorySink::new(alloc, 10_000, fails.1.to_vec(alloc)?)?;
     let status = run(alloc, &list, &mut source, &mut sink);
-    Ok((status, sink.bytes().to_vec(alloc)?))
+    Ok((status.code(), sink.bytes().to_vec(alloc)?))
 }
 
 /// Without the words of objects.
@@ -160,10 +160,41 @@ fn the_terminals_codes_come_as_words(rt: HostRuntime) -> Result<(), Fail> {
     Ok(())
 }
 
+/// A record that is not there, and a card with its counters at the end.
+const ASKED: &str = "\
+L0 > 00b2010c00
+L0 < 6a83
+A c1 power 11,9,4,17500,3,0
+done 1
+";
+
+/// The same with what is left of the card's limits, and where command and status stand.
+const CITED: &str = "\
+L0 > 00b2010c00
+  READ RECORD 1 of file 1 (CARD-8; Book 1, 11.2)
+L0 < 6a83
+  6A83: no such record (Book 3, 6.3.5)
+A c1 power 11,9,4,17500,3,0
+  transaction counter 11, last online 9, offline approvals 4, sum 17500, PIN tries 3
+done 1
+  left on card c1: offline approvals 1 of 5, sum 2500 of 20000
+";
+
+#[test]
+fn references_and_what_is_left_of_limits_are_told(rt: HostRuntime) -> Result<(), Fail> {
+    let card = "c1,0,A0000000031010,5,20000,0840,0,-";
+    let words = ["--card", card, "--books", "--why"];
+    let (status, text) = run_of(rt.alloc(), &words, ASKED, (&[], &[]))?;
+    assert_eq!(rt; status, 0);
+    assert_eq!(rt; text.as_slice(), CITED.as_bytes());
+    Ok(())
+}
+
 #[test]
 fn other_words_give_the_usage_line(rt: HostRuntime) -> Result<(), Fail> {
-    let rows: [&[&str]; 11] = [
+    let rows: [&[&str]; 12] = [
         &["x"],
+        &["--books", "--books"],
         &["--lane"],
         &["--lane", "16"],
         &["--lane", "1", "--lane", "1"],
@@ -192,7 +223,7 @@ fn other_words_give_the_usage_line(rt: HostRuntime) -> Result<(), Fail> {
         assert_eq!(rt; status, 2);
         assert_eq!(rt;
             text.as_slice(),
-            b"usage: explain [--brief] [--ends] [--why] [--lane N] [--purchase N] [--terminal T]... [--card T]... [--account T]...\n".as_slice()
+            b"usage: explain [--brief] [--ends] [--why] [--books] [--lane N] [--purchase N] [--terminal T]... [--card T]... [--account T]...\n".as_slice()
         );
     }
     Ok(())

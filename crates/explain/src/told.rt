@@ -108,11 +108,12 @@ fn put_shown<K: Sink>(sink: &mut K, shown: bool, text: &[u8], words: &[u8]) -> R
     }
 }
 
-/// Hands on what came of a line that is too long to be told.
+/// Hands on what came of a line that is too long to be told once a byte more of it comes.
 fn flush<K: Sink>(teller: &mut Teller, sink: &mut K) -> Result<(), Stop>
     requires { 8192 ≤ array_vec_len teller.old.line }
-    ensures ok { OnOk result ((seen : List ℕ) (first : Option (List ℕ)) → IsReportSoFar (way_in teller.old) teller.old.line.items (stand_of teller.old) seen first (K.held sink.old)
-        → IsReportSoFar (way_in teller.new) teller.new.line.items (stand_of teller.new) seen first (K.held sink.new)) }
+    ensures ok { OnOk result ((seen : List ℕ) (first : Option (List ℕ)) (byte : ℕ) → byte ≢ 10
+        → IsReportSoFar (way_in teller.old) teller.old.line.items (stand_of teller.old) seen first (K.held sink.old)
+        → IsReportSoFar (way_in teller.new) (teller.new.line.items ++ byte ∷ []) (stand_of teller.new) (seen ++ byte ∷ []) first (K.held sink.new)) }
     ensures front { OnErr result (AppendsFront (K.held sink.old) (K.held sink.new) (rest_behind_lines teller.old.all teller.old.line.items)) }
     ensures empty { OnOk result (array_vec_len teller.new.line ≡ 0) }
     ensures way { way_in teller.new ≡ way_in teller.old }
@@ -128,10 +129,11 @@ fn flush<K: Sink>(teller: &mut Teller, sink: &mut K) -> Result<(), Stop>
     }
 }
 
-/// Makes room for a byte of the line.
+/// Makes room for a byte of the line, which comes next.
 fn make_room<K: Sink>(teller: &mut Teller, sink: &mut K) -> Result<(), Stop>
-    ensures ok { OnOk result ((seen : List ℕ) (first : Option (List ℕ)) → IsReportSoFar (way_in teller.old) teller.old.line.items (stand_of teller.old) seen first (K.held sink.old)
-        → IsReportSoFar (way_in teller.new) teller.new.line.items (stand_of teller.new) seen first (K.held sink.new)) }
+    ensures ok { OnOk result ((seen : List ℕ) (first : Option (List ℕ)) (byte : ℕ) → byte ≢ 10
+        → IsReportSoFar (way_in teller.old) teller.old.line.items (stand_of teller.old) seen first (K.held sink.old)
+        → IsReportSoFar (way_in teller.new) (teller.new.line.items ++ byte ∷ []) (stand_of teller.new) (seen ++ byte ∷ []) first (K.held sink.new)) }
     ensures front { OnErr result (AppendsFront (K.held sink.old) (K.held sink.new) (rest_behind_lines teller.old.all teller.old.line.items)) }
     ensures room { OnOk result (array_vec_len teller.new.line ≤ 8191) }
     ensures way { way_in teller.new ≡ way_in teller.old }
@@ -184,8 +186,8 @@ fn end_long<K: Sink>(teller: &mut Teller, sink: &mut K) -> Result<(), Stop>
 
 /// The words of the line that has come, and whether it is left by the filters.
 fn tell(teller: &mut Teller) -> Result<bool, AllocError>
-    ensures words { OnOk result (AreWordLines teller.new.words.bytes) }
-    ensures made { OnOk result (Narrates (way_in teller.old).manner teller.old.line.items (seen_state teller.old.narrator) teller.new.words.bytes (seen_state teller.new.narrator)) }
+    ensures words { OnOk result (AreWordLines teller.new.words.made.bytes) }
+    ensures made { OnOk result (Narrates (way_in teller.old).manner teller.old.line.items (seen_state teller.old.narrator) teller.new.words.made.bytes (seen_state teller.new.narrator)) }
     ensures kept { IfOk result (λ shown. shown ≡ false → teller.old.all ≡ false) }
     ensures left { IfOk result (λ shown. shown ≡ (is_text_left (way_in teller.old).manner.filter (seen_state teller.old.narrator) teller.old.line.items || teller.old.all)) }
     ensures line { teller.new.line.items ≡ teller.old.line.items }

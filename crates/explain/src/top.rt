@@ -1,16 +1,14 @@
 //! The top call.
-ghost use Rattle.std.specs.Prelude.{◌≡◌, ◌≢◌, ◌≤◌, ◌⊎◌, ℕ, List, [], false, None, Some, OnOk, OnErr, IfOk, map, string_bytes};
+ghost use Rattle.std.specs.Prelude.{◌≡◌, ℕ, List, [], false, OnOk, OnErr, IfOk, map, string_bytes};
 ghost use Rattle.std.specs.declared.option.Option.{Option};
-ghost use Rattle.std.specs.Io.KnownBytes.{Appends};
-ghost use Rattle.emv_ports.specs.Causes.{Rose};
-ghost use Rattle.emv_ports.specs.Growth.{AppendsFront};
 ghost use Rattle.explain.specs.ReportSoFar.{IsReportSoFar, way_in, stand_of};
-ghost use Rattle.explain.specs.Grammar.{manner_of_words};
-ghost use Rattle.explain.specs.Reading.{ReadAll, ReadSome, TellingSourceCount, TellingSinkCount, BrokenOffAsAsked, explain_usage_line};
-ghost use Rattle.explain.specs.ToldLines.{Explained, BrokenOff, Way, way_by, way_of, whole_way};
-ghost use Rattle.narrator.specs.State.{Manner, seen_state, start};
+ghost use Rattle.explain.specs.Reading.{ReadAll, ReadSome, TellingSourceCount, TellingSinkCount};
+ghost use Rattle.explain.specs.Statuses.{ExplainAnswers, ExplainSourceCount, ExplainSinkCount};
+ghost use Rattle.explain.specs.ToldLines.{Explained, BrokenOff, way_of};
+ghost use Rattle.narrator.specs.State.{seen_state, start};
 
 use crate::options::{NoOptions, Options, read_options};
+use crate::status::Status;
 use crate::told::{Stop, Teller, end, take_bytes};
 use arrayvec::ArrayVec;
 use emv_ports::{Failed, Sink, Source, write_all};
@@ -20,7 +18,7 @@ use std::alloc::{AllocError, Global};
 
 /// The line that answers words which are not in the grammar.
 const USAGE: &[u8] =
-    b"usage: explain [--brief] [--ends] [--why] [--lane N] [--purchase N] [--terminal T]... [--card T]... [--account T]...\n";
+    b"usage: explain [--brief] [--ends] [--why] [--books] [--lane N] [--purchase N] [--terminal T]... [--card T]... [--account T]...\n";
 
 /// The most bytes that are read.
 const MOST_READ: u64 = 4_611_686_018_427_387_904;
@@ -135,60 +133,35 @@ fn explain_by<S: Source, K: Sink>(
     }
 }
 
-/// The usage line, and its status.
-fn answer_usage<K: Sink>(sink: &mut K) -> u8
-    ensures usage { result ≡ 2 → Appends (K.held sink.old) (K.held sink.new) explain_usage_line }
-    ensures front { result ≡ 4 → AppendsFront (K.held sink.old) (K.held sink.new) explain_usage_line }
-    ensures fault { result ≡ 4 → Rose (K.faults sink.old) (K.faults sink.new) }
-    ensures calm { result ≢ 4 → K.faults sink.new ≡ K.faults sink.old }
-    ensures known { (result ≡ 2) ⊎ (result ≡ 4) }
-{
-    match write_all(sink, USAGE) {
-        Ok(()) => 2,
-        Err(Failed) => 4,
-    }
-}
-
 /// Answers these words: explains the report that `source` gives, line by line, to `sink`, and gives the
-/// exit status. The words are `[--brief] [--ends] [--why] [--lane N] [--purchase N] [--terminal T]...
+/// status. The words are `[--brief] [--ends] [--why] [--books] [--lane N] [--purchase N] [--terminal T]...
 /// [--card T]... [--account T]...`, in any order. Each line is handed on as soon as its words are made. A line
 /// of more than 8,192 bytes, one of another form than a report's, and what stands behind the last newline have
 /// no words.
-pub fn run<S: Source, K: Sink>(alloc: Global, words: &[String], source: &mut S, sink: &mut K) -> u8
-    // 0: all that the source had left was read, and the sink got its lines in order and unchanged, each with
-    // none or some lines of words that begin with two blanks, or left out by a filter, in the manner that the
-    // words ask for. Without words none is left out.
-    ensures done { result ≡ 0 → (manner : Manner) × (manner_of_words (map string_bytes words.now) ≡ Some manner) × (words.now ≡ [] → way_by manner ≡ whole_way)
-        × Explained (way_by manner) (S.left source.old) (S.left source.new) (K.held sink.old) (K.held sink.new) }
-    // 2: the words are not in the grammar; the sink got the usage line, and nothing was read.
-    ensures outside { result ≡ 2 → manner_of_words (map string_bytes words.now) ≡ None }
-    ensures usage { result ≡ 2 → Appends (K.held sink.old) (K.held sink.new) explain_usage_line }
-    ensures unread { result ≡ 2 → source.new ≡ source.old }
-    // 3: the source failed, 4: the sink failed, 5: there was no memory. What the first bytes that were read
-    // are explained as, in the manner that the words ask for, was written, or a front of it. Where the sink
-    // failed, the words may not be in the grammar instead: then nothing was read, and a front of the usage
-    // line was written. Where there was no memory for what the words ask for, nothing was read or written.
-    ensures read_fault { result ≡ 3 → Rose (S.faults source.old) (S.faults source.new) }
-    ensures read_front { result ≡ 3 → BrokenOffAsAsked (map string_bytes words.now) (S.left source.old) (S.left source.new) (K.held sink.old) (K.held sink.new) }
-    ensures write_fault { result ≡ 4 → Rose (K.faults sink.old) (K.faults sink.new) }
-    ensures write_front { result ≡ 4
-        → ((manner_of_words (map string_bytes words.now) ≡ None) × (source.new ≡ source.old) × AppendsFront (K.held sink.old) (K.held sink.new) explain_usage_line)
-        ⊎ BrokenOffAsAsked (map string_bytes words.now) (S.left source.old) (S.left source.new) (K.held sink.old) (K.held sink.new) }
-    ensures memory { result ≡ 5 → ((source.new ≡ source.old) × (sink.new ≡ sink.old))
-        ⊎ BrokenOffAsAsked (map string_bytes words.now) (S.left source.old) (S.left source.new) (K.held sink.old) (K.held sink.new) }
-    // The source's count stays but for 3, the sink's but for 4.
-    ensures source_calm { result ≢ 3 → S.faults source.new ≡ S.faults source.old }
-    ensures sink_calm { result ≢ 4 → K.faults sink.new ≡ K.faults sink.old }
-    ensures known { (result ≤ 5) × (result ≢ 1) }
+pub fn run<S: Source, K: Sink>(
+    alloc: Global,
+    words: &[String],
+    source: &mut S,
+    sink: &mut K,
+) -> Status
+    // What becomes of the words, and what was read and written, by the status.
+    ensures answers { ExplainAnswers (map string_bytes words.now) (source.new ≡ source.old) (sink.new ≡ sink.old)
+        (S.left source.old) (S.left source.new) (K.held sink.old) (K.held sink.new) result }
+    // The counts of faults rise for what failed, and for nothing else.
+    ensures source { ExplainSourceCount (S.faults source.old) (S.faults source.new) result }
+    ensures sink { ExplainSinkCount (K.faults sink.old) (K.faults sink.new) result }
 {
     match read_options(alloc, words) {
         Ok(options) => match explain_by(alloc, options, source, sink) {
-            Ok(()) => 0,
-            Err(Broken::Source) => 3,
-            Err(Broken::Sink) => 4,
-            Err(Broken::OutOfMemory) => 5,
+            Ok(()) => Status::Done,
+            Err(Broken::Source) => Status::ReadFault,
+            Err(Broken::Sink) => Status::WriteFault,
+            Err(Broken::OutOfMemory) => Status::OutOfMemory,
         },
-        Err(NoOptions::Words) => answer_usage(sink),
-        Err(NoOptions::OutOfMemory) => 5,
+        Err(NoOptions::Words) => match write_all(sink, USAGE) {
+            Ok(()) => Status::Usage,
+            Err(Failed) => Status::WriteFault,
+        },
+        Err(NoOptions::OutOfMemory) => Status::OutOfMemory,
     }
 }

@@ -3,7 +3,8 @@ use Rattle.std.specs.Prelude.{ℕ, ◌+◌, ◌*◌, ◌/◌, ◌%◌, ◌==◌,
 use Rattle.ber_tlv.specs.Direct.{found_value, sole_value}
 use Rattle.ber_tlv.specs.Left.{items_of}
 use Rattle.ber_tlv.specs.declared.item.TlvFault.{TlvFault}
-use Rattle.report_lines.specs.Pieces.{Piece, line, text, number}
+use Rattle.report_lines.specs.Pieces.{Piece, line, text, number, reference_or_none}
+use Rattle.book_sections.specs.declared.references.TheConstants.{HELD, ABOVE_BALANCE, NO_ACCOUNT, EXPIRED, WRONG_PIN, NOT_ALLOWED, WRONG_CRYPTOGRAM}
 use Rattle.issuer_reasons.specs.Wanted.{currency_words}
 use Rattle.issuer_reasons.specs.Accounts.{account_now, charged}
 use Rattle.issuer_reasons.specs.declared.account.Account.{Account}
@@ -99,10 +100,25 @@ issuer_reason_words NotGenuine reply wanted = text NOT_GENUINE.now
 issuer_reason_words OtherCode reply wanted = text (codes "the issuer's own reasons")
 issuer_reason_words other reply wanted = numbers_words other reply wanted
 
--- a reply to a request, and on what it rests
+-- the rule behind a reason
+abbrev pub issuer_reference : IssuerReason → Option (List ℕ)
+issuer_reference Covered = Some HELD.now
+issuer_reference AboveBalance = Some ABOVE_BALANCE.now
+issuer_reference UnknownAccount = Some NO_ACCOUNT.now
+issuer_reference Expired = Some EXPIRED.now
+issuer_reference WrongPin = Some WRONG_PIN.now
+issuer_reference AccountBlocked = Some NOT_ALLOWED.now
+issuer_reference OtherCurrency = Some NOT_ALLOWED.now
+issuer_reference SettledBefore = Some NOT_ALLOWED.now
+issuer_reference OneOfThree = Some NOT_ALLOWED.now
+issuer_reference NotGenuine = Some WRONG_CRYPTOGRAM.now
+issuer_reference OtherCode = None
+
+-- a reply to a request, and on what it rests, with the rule
 abbrev pub reply_reason_words : Reply → Option Wanted → List Piece
 reply_reason_words reply wanted =
     text (codes "its code is ") ++ text reply.code ++ text (codes ": ") ++ issuer_reason_words (issuer_reason reply wanted) reply wanted
+    ++ reference_or_none (issuer_reference (issuer_reason reply wanted))
 
 abbrev pub no_reply_words : Bool → List Piece
 no_reply_words requested =

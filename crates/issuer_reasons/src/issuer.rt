@@ -1,11 +1,14 @@
 //! On what an issuer's code rests (docs/proof/profile.md, HOST-1 to HOST-9).
-ghost use Rattle.std.specs.Prelude.{◌≡◌, OnOk};
+ghost use Rattle.std.specs.Prelude.{◌≡◌, OnOk, option_map};
 ghost use Rattle.issuer_reasons.specs.Issuers as spec;
 ghost use Rattle.report_lines.specs.Pieces.{Tells};
 
 use crate::account::{Account, AccountNow, Charge, account_now, charge_account};
 use crate::wanted::{Wanted, tell_currency};
 use ber_tlv::{Tag, first_value, sole_value};
+use book_sections::{
+    ABOVE_BALANCE, EXPIRED, HELD, NO_ACCOUNT, NOT_ALLOWED, WRONG_CRYPTOGRAM, WRONG_PIN,
+};
 use report_lines::WordLines;
 use std::alloc::AllocError;
 
@@ -251,14 +254,35 @@ pub const ONE_OF_THREE: &[u8] =
 pub const NOT_GENUINE: &[u8] =
     b"neither a blocked account, nor its currency, nor its balance: its cryptogram, or other bytes of its transaction before";
 
-/// Tells a reply to a request, and on what it rests.
+/// The rule behind a reason.
+fn issuer_reference(reason: IssuerReason) -> Option<&'static [u8]>
+    ensures { option_map (λ word. word.now) result ≡ spec.issuer_reference reason }
+{
+    match reason {
+        IssuerReason::Covered => Some(HELD),
+        IssuerReason::AboveBalance => Some(ABOVE_BALANCE),
+        IssuerReason::UnknownAccount => Some(NO_ACCOUNT),
+        IssuerReason::Expired => Some(EXPIRED),
+        IssuerReason::WrongPin => Some(WRONG_PIN),
+        IssuerReason::AccountBlocked
+        | IssuerReason::OtherCurrency
+        | IssuerReason::SettledBefore
+        | IssuerReason::OneOfThree => Some(NOT_ALLOWED),
+        IssuerReason::NotGenuine => Some(WRONG_CRYPTOGRAM),
+        IssuerReason::OtherCode => None,
+    }
+}
+
+/// Tells a reply to a request, and on what it rests, with the rule.
 fn tell_reply(out: &mut WordLines, reply: &Reply, wanted: Option<Wanted>)
     ensures { Tells out.old out.new (spec.reply_reason_words reply.now wanted) }
 {
     out.text(b"its code is ");
     out.text(&reply.code);
     out.text(b": ");
-    tell_issuer_reason(out, issuer_reason(reply, wanted), reply, wanted);
+    let reason = issuer_reason(reply, wanted);
+    tell_issuer_reason(out, reason, reply, wanted);
+    out.reference_of(issuer_reference(reason));
 }
 
 /// Tells on what the issuer's reply rests, or that none came.

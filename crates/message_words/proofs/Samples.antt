@@ -1,6 +1,6 @@
 -- What the definitions say of some messages.
-use Rattle.std.proofs.Common.{◌≡◌, ℕ, List, [], ◌∷◌, ◌++◌, Some, codes, true, refl}
-use Rattle.value_words.specs.Words.{word_in}
+use Rattle.std.proofs.Common.{◌≡◌, ℕ, List, [], ◌∷◌, ◌++◌, Some, codes, true, false, refl}
+use Rattle.report_lines.specs.Tables.{word_in}
 use Rattle.report_lines.specs.Lines.{line_closed, line_opened, line_begun, stage_of, next_stage}
 use Rattle.report_lines.specs.Pieces.{with_piece, lines_of}
 use Rattle.message_words.specs.Fields.{field_contents, named_from, has_field_bit, cut_field}
@@ -35,6 +35,6 @@ unfolding settled_by iso_message_of
 reversal_known = refl
 
 -- the words of a reversal without its fields
-pub reversal_told : lines_of (call_words [] (codes "0400") true) ≡ codes "  0400 reversal\n"
+pub reversal_told : lines_of false (call_words [] (codes "0400") true) ≡ codes "  0400 reversal\n"
 unfolding call_words iso_message_of type_word word_in with_piece line_begun line_opened line_closed stage_of next_stage
 reversal_told = refl

@@ -1,7 +1,7 @@
 -- Messages in the style of ISO 8583:1987 in words.
 use Rattle.std.specs.Prelude.{ℕ, ◌==◌, Bool, ◌&&◌, nat_le, if◌then◌else◌, List, [], ◌∷◌, ◌++◌, length, map, take, drop, slice_index, codes, Option, Some, None, option_map, is_some}
 use Rattle.std.specs.List.{flat_map}
-use Rattle.value_words.specs.Words.{word_in}
+use Rattle.report_lines.specs.Tables.{word_in}
 use Rattle.value_words.specs.declared.codes.TheConstants.{FIELDS, MESSAGE_TYPES}
 use Rattle.value_words.specs.declared.names.Form.TheVariants.{Response}
 use Rattle.value_words.specs.Plain.{hex_words}

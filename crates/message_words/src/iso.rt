@@ -10,8 +10,8 @@ ghost use Rattle.object_words.specs.Results.{behind_blank};
 use crate::fields::{begins_with_code, cut_field, four_digits, is_named};
 use crate::objects::tell_objects_beside;
 use object_words::{Style, tell_objects, tell_value};
-use report_lines::WordLines;
-use value_words::{FIELDS, Fields, Form, MESSAGE_TYPES, tell_hex, word_of};
+use report_lines::{WordLines, word_of};
+use value_words::{FIELDS, Fields, Form, MESSAGE_TYPES, tell_hex};
 
 /// How deep objects within objects are told.
 pub(crate) const DEPTH: u8 = 8;

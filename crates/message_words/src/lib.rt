@@ -12,4 +12,4 @@ pub mod power;
 
 pub use cards::CardSeen;
 pub use host::{Settled, code_in, settled_by, tell_call, tell_reply};
-pub use power::tell_power;
+pub use power::{tell_place, tell_power};

@@ -242,7 +242,7 @@ fn tell_earlier(out: &mut WordLines, before: &[Counters], place: usize, now: &Co
 
 /// Tells which of several applications this is.
 #[tactic(auto, unfolding(crate::specs::Powers::place_words))]
-fn tell_place(out: &mut WordLines, several: bool, place: usize)
+pub fn tell_place(out: &mut WordLines, several: bool, place: usize)
     requires { place < 2 ^ 32 }
     ensures { Tells out.old out.new (spec.place_words several place) }
 {

@@ -3,7 +3,8 @@ use Rattle.std.proofs.Common.{◌≡◌, ℕ, List, [], false, None, codes, refl
 use Rattle.std.specs.Fmt.{digits}
 use Rattle.apdu_core.specs.Command.{command_of}
 use Rattle.apdu_core.specs.Response.{response_of}
-use Rattle.value_words.specs.Words.{word_in}
+use Rattle.book_sections.specs.References.{answer_reference, any_status_reference, command_reference}
+use Rattle.report_lines.specs.Tables.{word_in}
 use Rattle.hex.specs.Hex.{decode_pairs}
 use Rattle.report_lines.specs.Lines.{line_closed, line_opened, line_begun, stage_of, next_stage}
 use Rattle.report_lines.specs.Pieces.{with_piece, lines_of}
@@ -20,11 +21,11 @@ use Rattle.narrator.specs.Words.{words_by, state_by}
 
 -- all words, and nothing is known of the terminals
 abbrev whole : Manner
-whole = record { filter = record { brief = false; why = false; ends = false; lane = None; purchase = None }; terminals = []; card_apps = []; accounts = [] }
+whole = record { filter = record { brief = false; why = false; books = false; ends = false; lane = None; purchase = None }; terminals = []; card_apps = []; accounts = [] }
 
 -- the words of a text, and what it leaves
 abbrev words_behind : StateData → List ℕ → List ℕ
-words_behind state text = lines_of (words_by whole state (line_in text))
+words_behind state text = lines_of false (words_by whole state (line_in text))
 
 abbrev after : List ℕ → StateData
 after text = state_by whole start (line_in text)
@@ -34,14 +35,14 @@ unfolding line_in split_at decimal_number with_piece line_begun line_opened line
 card_gone = refl
 
 pub record_read : words_behind start (codes "L3 > 00b2020c00") ≡ codes "  READ RECORD 2 of file 1\n"
-unfolding line_in split_at decimal_number bytes_told decode_pairs row_for words_of_command command_of digits with_piece line_begun line_opened line_closed stage_of next_stage
+unfolding line_in split_at decimal_number bytes_told decode_pairs row_for words_of_command command_of command_reference word_in digits with_piece line_begun line_opened line_closed stage_of next_stage
 record_read = refl
 
 -- a command leaves itself for the line behind it
 pub record_torn : words_behind (after (codes "L3 > 00b2020c00")) (codes "L3 < torn") ≡ codes "  the card was pulled out before it had answered READ RECORD\n"
-unfolding line_in split_at decimal_number bytes_told decode_pairs row_for left_by_command command_of command_name may_keep with_piece line_begun line_opened line_closed stage_of next_stage
+unfolding line_in split_at decimal_number bytes_told decode_pairs row_for left_by_command command_of command_name may_keep command_reference word_in with_piece line_begun line_opened line_closed stage_of next_stage
 record_torn = refl
 
 pub record_absent : words_behind (after (codes "L3 > 00b2020c00")) (codes "L3 < 6a83") ≡ codes "  6A83: no such record\n"
-unfolding line_in split_at decimal_number bytes_told decode_pairs row_for left_by_command command_of words_of_answer response_of status_word answer_word word_in with_piece line_begun line_opened line_closed stage_of next_stage
+unfolding line_in split_at decimal_number bytes_told decode_pairs row_for left_by_command command_of words_of_answer response_of status_word answer_word answer_reference any_status_reference word_in with_piece line_begun line_opened line_closed stage_of next_stage
 record_absent = refl

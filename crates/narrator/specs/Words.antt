@@ -1,7 +1,7 @@
 -- What is told of a line, behind what the lines before it left.
 use Rattle.std.specs.Prelude.{ℕ, ◌≡◌, ◌%◌, Bool, if◌then◌else◌, List, [], ◌++◌, map, slice_get, Option, Some, None, option_map, unwrap_or}
 use Rattle.report_lines.specs.Pieces.{Piece, line, text, number, lines_of}
-use Rattle.value_words.specs.Words.{word_in}
+use Rattle.report_lines.specs.Tables.{word_in}
 use Rattle.value_words.specs.declared.codes.TheConstants.{REFUSALS}
 use Rattle.exchange_words.specs.Answers.{words_of_answer}
 use Rattle.exchange_words.specs.Commands.{words_of_command}
@@ -10,6 +10,7 @@ use Rattle.exchange_words.specs.Terminals.{row_for}
 use Rattle.exchange_words.specs.Torn.{torn_words}
 use Rattle.exchange_words.specs.declared.terminal.Terminal.{Terminal}
 use Rattle.purchase_reasons.specs.Kept.{CardsData}
+use Rattle.purchase_reasons.specs.Left.{cards_left}
 use Rattle.purchase_reasons.specs.Reasons.{reasons_words}
 use Rattle.value_words.specs.Fields.{fields_of}
 use Rattle.message_words.specs.Messages.{call_words, reply_words}
@@ -17,7 +18,7 @@ use Rattle.message_words.specs.declared.host.Settled.TheVariants.{Nothing}
 use Rattle.object_words.specs.Objects.{object_words, plain}
 use Rattle.message_words.specs.Cards.{power_words}
 use Rattle.report_lines.specs.Bytes.{bytes_told}
-use Rattle.report_lines.specs.Reading.{LineData, WhatData, WhoseData, EndingData, EndLineFields, line_in, Lane, Settlement, Audit, Report, Power, PowerTorn, PowerCanned, Sent, Given, Torn, ToHost, FromHost, End, Gone, NoReply, Lost, Object, Refused, Differs, ReadEnded}
+use Rattle.report_lines.specs.Reading.{LineData, WhatData, WhoseData, EndingData, EndLineFields, line_in, Lane, Settlement, Audit, Report, Power, PowerTorn, PowerCanned, Sent, Given, Torn, ToHost, FromHost, End, Gone, NoReply, Lost, Done, Object, Refused, Differs, ReadEnded}
 use Rattle.ending_words.specs.Endings.{break_words, end_words, hex_number}
 use Rattle.narrator.specs.Filters.{is_left_by_filters, shows_all}
 use Rattle.narrator.specs.State.{Manner, StateData, state_left_by, audit_place}
@@ -154,11 +155,20 @@ at_lane manner state place (End number ending fields) =
     lane_end_words (slice_get state.lanes place) ending fields manner.filter.brief ++ why_at manner state (slice_get state.lanes place)
 at_lane manner state place what = unwrap_or (of_talk what) []
 
+-- what is left of the cards' limits, where it is asked for
+abbrev pub limits_at_end : Manner → StateData → List Piece
+limits_at_end manner state = (if manner.filter.why then cards_left (cards_known manner state) else [])
+
+-- a line of no lane and no card: behind the last one what is left of the cards' limits
+abbrev pub of_report : Manner → StateData → WhatData → List Piece
+of_report manner state Done = limits_at_end manner state
+of_report manner state what = report_words manner.filter.brief what
+
 abbrev pub by_whose : Manner → StateData → WhoseData → WhatData → List Piece
 by_whose manner state (Lane lane) what = at_lane manner state lane what
 by_whose manner state (Audit card) what = at_lane manner state audit_place what
 by_whose manner state (Settlement lane) what = of_settlement manner.filter.brief state lane what
-by_whose manner state Report what = report_words manner.filter.brief what
+by_whose manner state Report what = of_report manner state what
 
 -- what is told of a line behind this state, in this manner
 abbrev pub line_said : Manner → StateData → LineData → List Piece
@@ -193,7 +203,7 @@ left_where filter state (Some line) = is_left filter state line
 
 -- one line of a report: behind this state and in this manner it has these words, and leaves this state
 unfoldable pub Narrates : Manner → List ℕ → StateData → List ℕ → StateData → Type 0
-Narrates manner text old words new = (words ≡ lines_of (words_by manner old (line_in text))) × (new ≡ state_by manner old (line_in text))
+Narrates manner text old words new = (words ≡ lines_of manner.filter.books (words_by manner old (line_in text))) × (new ≡ state_by manner old (line_in text))
 
 -- whether it is left by the filter
 unfoldable pub is_text_left : Filter → StateData → List ℕ → Bool

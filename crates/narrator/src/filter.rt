@@ -12,6 +12,8 @@ pub struct Filter {
     pub brief: bool,
     /// Why each purchase came out as it did is told, a line a party.
     pub why: bool,
+    /// Where each reason stands is told, in the profile and in the Books.
+    pub books: bool,
     /// Power, end, balance and done lines alone.
     pub ends: bool,
     /// The lines of this lane alone.

@@ -1,6 +1,7 @@
 //! Tells each line of a report in words, from the line and from what the lines before it left.
 #![tactic(auto)]
 
+pub mod alone;
 pub mod filter;
 pub mod narrator;
 pub mod past;

@@ -1,5 +1,5 @@
 //! The teller of a report's lines.
-ghost use Rattle.std.specs.Prelude.{◌≡◌, ◌<◌, [], replicate, slice_get, OnOk, IfOk, option_map, unwrap_or};
+ghost use Rattle.std.specs.Prelude.{◌≡◌, ◌<◌, [], replicate, slice_get, OnOk, IfOk, option_map};
 ghost use Rattle.message_words.specs.Cards.{power_words};
 ghost use Rattle.narrator.specs.State as state;
 ghost use Rattle.narrator.specs.State.{seen_state};
@@ -12,16 +12,18 @@ ghost use Rattle.report_lines.specs.Reading.{seen_ending, seen_fields, seen_line
 ghost use Rattle.report_lines.specs.Lines.{AreWordLines};
 ghost use Rattle.report_lines.specs.Pieces.{Tells};
 
+use crate::alone::tell_alone;
 use crate::filter::Filter;
 use crate::past::LanePast;
-use crate::phrases::{CARD_GONE, NO_REPLY, POWER_CANNED, POWER_TORN, PURCHASE_LOST};
 use crate::report::tell_of_report;
 use ending_words::tell_end;
 use exchange_words::{Terminal, tell_torn};
 use issuer_reasons::{Account, Charge, KnownAccounts, Reply, reply_of};
 use message_words::{CardSeen, tell_power};
 use purchase_reasons::kept::Cards;
-use purchase_reasons::{CardApp, ChangedLimits, charge_reply, keep_limits, tell_reasons};
+use purchase_reasons::{
+    CardApp, ChangedLimits, charge_reply, keep_limits, tell_cards_left, tell_reasons,
+};
 use report_lines::{EndFields, Ending, ReportLine, What, Whose, WordLines, bytes_of, read_line};
 use std::alloc::{AllocError, Global};
 
@@ -41,30 +43,6 @@ pub struct Narrator {
     changed: Vec<ChangedLimits>,
     charges: Vec<Charge>,
     is_unsure: bool,
-}
-
-/// The phrase of a line of a lane or of the audit that tells enough by itself.
-fn phrase_of(what: &What<'_>) -> Option<&'static [u8]>
-    ensures { option_map (λ phrase. phrase.now) result ≡ spec.phrase_of (seen_what what.now) }
-{
-    match what {
-        What::PowerTorn(_) => Some(POWER_TORN),
-        What::PowerCanned(_) => Some(POWER_CANNED),
-        What::Gone => Some(CARD_GONE),
-        What::NoReply => Some(NO_REPLY),
-        What::Lost(_) => Some(PURCHASE_LOST),
-        _ => None,
-    }
-}
-
-/// Tells a line of a lane or of the audit that tells enough by itself.
-fn tell_alone(out: &mut WordLines, what: &What<'_>)
-    ensures { Tells out.old out.new (unwrap_or (spec.of_talk (seen_what what.now)) []) }
-{
-    if let Some(phrase) = phrase_of(what) {
-        out.line(1);
-        out.text(phrase);
-    }
 }
 
 /// The lanes before the first line, and the audit's card behind them.
@@ -530,6 +508,28 @@ impl Narrator {
         }
     }
 
+    /// Tells what is left of the cards' limits, where that is asked for.
+    fn tell_left(&self, out: &mut WordLines)
+        ensures { Tells out.old out.new (spec.limits_at_end (state.manner_of self.now) (seen_state self.now)) }
+    {
+        if self.filter.why {
+            tell_cards_left(out, &self.cards_known());
+        }
+    }
+
+    /// Tells a line of no lane and no card: behind the last one what is left of the cards' limits.
+    fn tell_report(&self, what: &What<'_>, out: &mut WordLines) -> Result<(), AllocError>
+        ensures { OnOk result (Tells out.old out.new (spec.of_report (state.manner_of self.now) (seen_state self.now) (seen_what what.now))) }
+    {
+        match what {
+            What::Done => {
+                self.tell_left(out);
+                Ok(())
+            }
+            other => tell_of_report(out, self.alloc, other, self.filter.brief),
+        }
+    }
+
     /// Tells a line, and keeps what it leaves for the lines behind it.
     fn tell_line(&mut self, line: &ReportLine<'_>, out: &mut WordLines) -> Result<(), AllocError>
         ensures words { OnOk result (Tells out.old out.new (spec.line_said (state.manner_of self.old) (seen_state self.old) (seen_line line.now))) }
@@ -540,7 +540,7 @@ impl Narrator {
             Whose::Lane(lane) => self.tell_at(lane, &line.what, out),
             Whose::Settlement(lane) => self.tell_settlement(lane, &line.what, out),
             Whose::Audit(_) => self.tell_at(AUDIT, &line.what, out),
-            Whose::Report => tell_of_report(out, self.alloc, &line.what, self.filter.brief),
+            Whose::Report => self.tell_report(&line.what, out),
         }
     }
 
@@ -556,12 +556,12 @@ impl Narrator {
     /// there was no memory.
     #[tactic(auto, unfolding(crate::specs::Words::Narrates, crate::specs::Words::is_text_left))]
     pub fn tell(&mut self, text: &[u8], out: &mut WordLines) -> Result<bool, AllocError>
-        ensures lines { OnOk result (AreWordLines out.new.bytes) }
+        ensures lines { OnOk result (AreWordLines out.new.made.bytes) }
         ensures shown { IfOk result (λ shown. shown ≡ is_text_left self.old.filter (seen_state self.old) text.now) }
-        ensures told { OnOk result (Narrates (state.manner_of self.old) text.now (seen_state self.old) out.new.bytes (seen_state self.new)) }
+        ensures told { OnOk result (Narrates (state.manner_of self.old) text.now (seen_state self.old) out.new.made.bytes (seen_state self.new)) }
         ensures manner { state.manner_of self.new ≡ state.manner_of self.old }
     {
-        out.clear();
+        out.clear(self.filter.books);
         match read_line(text) {
             Some(line) => {
                 let shown = self.shows(&line);

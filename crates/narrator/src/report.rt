@@ -10,9 +10,9 @@ use crate::phrases::{OR_MISSING, TRACE_DIFFERS};
 use ber_tlv::Tag;
 use ending_words::{hex_number, tell_break};
 use object_words::{Object, Style, tell_object};
-use report_lines::{What, WordLines, bytes_of};
+use report_lines::{What, WordLines, bytes_of, word_of};
 use std::alloc::{AllocError, Global};
-use value_words::{REFUSALS, word_of};
+use value_words::REFUSALS;
 
 /// Tells an object that a card gave.
 fn tell_given_object(

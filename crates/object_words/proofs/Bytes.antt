@@ -11,10 +11,10 @@ numbers_next value place within = ap (bit_numbers_from (place + 1)) (from_place 
 pub numbers_end : (value : List ℕ) (place : ℕ) → length value ≤ place → bit_numbers_from (place + 1) (drop place value) ≡ []
 numbers_end value place past = ap (bit_numbers_from (place + 1)) (drop_all place value past)
 
-pub words_next : (table : List (ℕ × List ℕ)) (value : List ℕ) (place : ℕ) → place < length value
-    → bit_words_from table (place + 1) (drop place value)
-    ≡ byte_words table (place + 1) (get_or value place 0) ++ bit_words_from table (place + 1 + 1) (drop (place + 1) value)
-words_next table value place within = ap (bit_words_from table (place + 1)) (from_place value place within)
+pub words_next : (table references : List (ℕ × List ℕ)) (value : List ℕ) (place : ℕ) → place < length value
+    → bit_words_from table references (place + 1) (drop place value)
+    ≡ byte_words table references (place + 1) (get_or value place 0) ++ bit_words_from table references (place + 1 + 1) (drop (place + 1) value)
+words_next table references value place within = ap (bit_words_from table references (place + 1)) (from_place value place within)
 
-pub words_end : (table : List (ℕ × List ℕ)) (value : List ℕ) (place : ℕ) → length value ≤ place → bit_words_from table (place + 1) (drop place value) ≡ []
-words_end table value place past = ap (bit_words_from table (place + 1)) (drop_all place value past)
+pub words_end : (table references : List (ℕ × List ℕ)) (value : List ℕ) (place : ℕ) → length value ≤ place → bit_words_from table references (place + 1) (drop place value) ≡ []
+words_end table references value place past = ap (bit_words_from table references (place + 1)) (drop_all place value past)

@@ -1,9 +1,9 @@
 -- Values that are bits, in words.
 use Rattle.std.specs.Prelude.{ℕ, ◌+◌, ◌-◌, ◌*◌, ◌==◌, true, not, if◌then◌else◌, List, [], ◌∷◌, ◌++◌, length, slice_index, codes, Option, Some, None}
 use Rattle.std.specs.List.{list_any}
-use Rattle.report_lines.specs.Pieces.{Piece, text, number, hex, word_or}
+use Rattle.report_lines.specs.Pieces.{Piece, text, number, hex, word_or, reference_or_none}
 use Rattle.report_lines.specs.Bits.{bits_told_from}
-use Rattle.value_words.specs.Words.{word_in}
+use Rattle.report_lines.specs.Tables.{word_in}
 use Rattle.value_words.specs.Plain.{hex_words, told_if}
 
 -- a bit as BYTE.BIT, by its place in its byte from 0 at the left
@@ -26,27 +26,30 @@ bit_numbers value = bit_numbers_from 1 value
 abbrev pub bits_words : List ℕ → List Piece
 bits_words value = hex_words value ++ (if list_any (λ byte. not (byte == 0)) value then text (codes ", bits") ++ bit_numbers value else [])
 
--- the words of a bit in a table, or BYTE.BIT where it has none
-abbrev pub bit_word : List (ℕ × List ℕ) → ℕ → ℕ → List Piece
-bit_word table byte_number bit = word_or (number byte_number ++ text (codes ".") ++ number bit) (word_in table (byte_number * 10 + bit))
+-- the words of a bit in a table, or BYTE.BIT where it has none, and where it stands
+abbrev pub bit_word : List (ℕ × List ℕ) → List (ℕ × List ℕ) → ℕ → ℕ → List Piece
+bit_word table references byte_number bit =
+    word_or (number byte_number ++ text (codes ".") ++ number bit) (word_in table (byte_number * 10 + bit))
+    ++ reference_or_none (word_in references (byte_number * 10 + bit))
 
-abbrev pub word_at : List (ℕ × List ℕ) → ℕ → ℕ → List Piece
-word_at table byte_number place = bit_word table byte_number (8 - place)
+abbrev pub word_at : List (ℕ × List ℕ) → List (ℕ × List ℕ) → ℕ → ℕ → List Piece
+word_at table references byte_number place = bit_word table references byte_number (8 - place)
 
 -- the words of a byte's bits that are set, each behind a comma
-abbrev pub byte_words : List (ℕ × List ℕ) → ℕ → ℕ → List Piece
-byte_words table byte_number byte = bits_told_from 8 (text (codes ", ")) (word_at table byte_number) byte true 0 8
+abbrev pub byte_words : List (ℕ × List ℕ) → List (ℕ × List ℕ) → ℕ → ℕ → List Piece
+byte_words table references byte_number byte = bits_told_from 8 (text (codes ", ")) (word_at table references byte_number) byte true 0 8
 
-abbrev pub bit_words_from : List (ℕ × List ℕ) → ℕ → List ℕ → List Piece
-bit_words_from table byte_number [] = []
-bit_words_from table byte_number (byte ∷ bytes) = byte_words table byte_number byte ++ bit_words_from table (byte_number + 1) bytes
+abbrev pub bit_words_from : List (ℕ × List ℕ) → List (ℕ × List ℕ) → ℕ → List ℕ → List Piece
+bit_words_from table references byte_number [] = []
+bit_words_from table references byte_number (byte ∷ bytes) =
+    byte_words table references byte_number byte ++ bit_words_from table references (byte_number + 1) bytes
 
-abbrev pub bit_words : List (ℕ × List ℕ) → List ℕ → List Piece
-bit_words table value = bit_words_from table 1 value
+abbrev pub bit_words : List (ℕ × List ℕ) → List (ℕ × List ℕ) → List ℕ → List Piece
+bit_words table references value = bit_words_from table references 1 value
 
 -- so many bytes, and the words of their bits
-abbrev pub table_flags_words : List (ℕ × List ℕ) → ℕ → List ℕ → Option (List Piece)
-table_flags_words table count value = told_if (length value == count) (hex value ++ bit_words table value)
+abbrev pub table_flags_words : List (ℕ × List ℕ) → List (ℕ × List ℕ) → ℕ → List ℕ → Option (List Piece)
+table_flags_words table references count value = told_if (length value == count) (hex value ++ bit_words table references value)
 
 abbrev pub behind_comma : Option (List ℕ) → List Piece
 behind_comma None = []

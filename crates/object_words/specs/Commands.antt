@@ -2,7 +2,7 @@
 use Rattle.std.specs.Prelude.{ℕ, ◌%◌, ◌^◌, ◌==◌, ◌&&◌, nat_le, nat_lt, if◌then◌else◌, List, [], ◌∷◌, ◌++◌, length, slice_index, take, drop, codes, Option, Some, None, map, unwrap_or}
 use Rattle.report_lines.specs.Pieces.{Piece, text, number, hex}
 use Rattle.emv_dict.specs.Bcd as bcd
-use Rattle.value_words.specs.Words.{word_in}
+use Rattle.report_lines.specs.Tables.{word_in}
 use Rattle.value_words.specs.declared.codes.TheConstants.{SCRIPT_COMMANDS}
 use Rattle.value_words.specs.Plain.{binary_number, all_digits}
 use Rattle.object_words.specs.declared.phrases.TheConstants.{NO_SCRIPT_COMMAND}

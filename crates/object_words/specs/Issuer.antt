@@ -1,7 +1,9 @@
 -- Values that the issuer gives or reads, in words.
 use Rattle.std.specs.Prelude.{ℕ, ◌+◌, ◌*◌, ◌/◌, ◌%◌, ◌==◌, Bool, ◌&&◌, nat_le, if◌then◌else◌, List, [], ◌∷◌, ◌++◌, length, map, slice_index, take, drop, bit_and, codes, Option, Some, None}
-use Rattle.report_lines.specs.Pieces.{Piece, text, number, hex, word_or}
-use Rattle.value_words.specs.Words.{word_in}
+use Rattle.report_lines.specs.Pieces.{Piece, text, number, hex, word_or, reference, reference_or_none}
+use Rattle.book_sections.specs.References.{response_reference}
+use Rattle.book_sections.specs.declared.references.TheConstants.{SETTLED}
+use Rattle.report_lines.specs.Tables.{word_in}
 use Rattle.value_words.specs.declared.bits.TheConstants.{UPDATE_BITS}
 use Rattle.value_words.specs.declared.codes.TheConstants.{CRYPTOGRAMS, RESPONSES}
 use Rattle.object_words.specs.Bits.{behind_comma, bit_words}
@@ -27,21 +29,24 @@ approval_words byte = (if nat_le 128 byte then text (codes "approved") else text
 abbrev pub update_words : List ℕ → List Piece
 update_words update =
     text STATUS_UPDATE.now ++ hex update ++ text (codes ": ") ++ approval_words (slice_index update 0)
-    ++ bit_words (map (λ w. (w.0, w.1.now)) UPDATE_BITS) (0 ∷ bit_and (slice_index update 1) 0xF0 ∷ [])
+    ++ bit_words (map (λ w. (w.0, w.1.now)) UPDATE_BITS) [] (0 ∷ bit_and (slice_index update 1) 0xF0 ∷ [])
 
 -- the words of a response code
 unfoldable pub response_word : ℕ → Option (List ℕ)
 response_word code = word_in (map (λ w. (w.0, w.1.now)) RESPONSES) code
 
--- an authorisation response code in words
+abbrev pub known_response_words : ℕ → List Piece
+known_response_words code = word_or (text (codes "not known")) (response_word code)
+
+-- an authorisation response code in words, and where it stands
 abbrev pub response_words : ℕ → List Piece
-response_words code = word_or (text (codes "not known")) (response_word code)
+response_words code = known_response_words code ++ reference_or_none (response_reference code)
 
 -- what became of a message of the settlement: 00 has its own words there
 abbrev pub answer_words : ℕ → List ℕ → List Piece
 answer_words code approved =
-    if code == 0x3030 then text approved
-    else if code == 0x3035 then text REFUSED.now
+    if code == 0x3030 then text approved ++ reference SETTLED.now
+    else if code == 0x3035 then text REFUSED.now ++ reference SETTLED.now
     else response_words code
 
 abbrev pub issuer_code_words : ℕ → Option (List ℕ) → List Piece

@@ -6,6 +6,7 @@ use Rattle.ber_tlv.specs.Item.{ItemData}
 use Rattle.ber_tlv.specs.Left.{items_of, fault_of}
 use Rattle.ber_tlv.specs.Tag.{names_template}
 use Rattle.ber_tlv.specs.Written.{tag_bytes}
+use Rattle.book_sections.specs.declared.references.TheConstants.{STATUS_REFERENCES}
 use Rattle.value_words.specs.Words.{tag_name_in}
 use Rattle.value_words.specs.declared.bits.TheConstants.{ADDITIONAL_BITS, CAPABILITY_BITS, INTERCHANGE_BITS, STATUS_BITS, USAGE_BITS}
 use Rattle.value_words.specs.declared.codes.TheConstants.{TERMINAL_TYPES, TRADES}
@@ -44,11 +45,11 @@ verification_words style value = told_if (length value == 5) (hex value ++ bits_
 
 -- a value by its form; none where it is of another length or content, or its form is that of bytes
 abbrev pub table_words : Form → Style → List ℕ → Option (List Piece)
-table_words form.Interchange style value = table_flags_words (map (λ w. (w.0, w.1.now)) INTERCHANGE_BITS) 2 value
-table_words form.Usage style value = table_flags_words (map (λ w. (w.0, w.1.now)) USAGE_BITS) 2 value
-table_words form.Capabilities style value = table_flags_words (map (λ w. (w.0, w.1.now)) CAPABILITY_BITS) 3 value
-table_words form.Additional style value = table_flags_words (map (λ w. (w.0, w.1.now)) ADDITIONAL_BITS) 5 value
-table_words form.Status style value = table_flags_words (map (λ w. (w.0, w.1.now)) STATUS_BITS) 2 value
+table_words form.Interchange style value = table_flags_words (map (λ w. (w.0, w.1.now)) INTERCHANGE_BITS) [] 2 value
+table_words form.Usage style value = table_flags_words (map (λ w. (w.0, w.1.now)) USAGE_BITS) [] 2 value
+table_words form.Capabilities style value = table_flags_words (map (λ w. (w.0, w.1.now)) CAPABILITY_BITS) [] 3 value
+table_words form.Additional style value = table_flags_words (map (λ w. (w.0, w.1.now)) ADDITIONAL_BITS) [] 5 value
+table_words form.Status style value = table_flags_words (map (λ w. (w.0, w.1.now)) STATUS_BITS) (map (λ w. (w.0, w.1.now)) STATUS_REFERENCES) 2 value
 table_words form.Results style value = verification_words style value
 table_words form.TerminalType style value = coded_words (map (λ w. (w.0, w.1.now)) TERMINAL_TYPES) value
 table_words form.Trade style value = coded_words (map (λ w. (w.0, w.1.now)) TRADES) value

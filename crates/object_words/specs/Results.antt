@@ -2,9 +2,10 @@
 -- Annex C5).
 use Rattle.std.specs.Prelude.{ℕ, ◌+◌, ◌-◌, ◌*◌, ◌/◌, ◌%◌, ◌^◌, ◌==◌, Bool, true, false, ◌||◌, if◌then◌else◌, List, [], ◌++◌, map, codes, Option, Some, None, option_map}
 use Rattle.std.specs.Borrow.{Bor}
-use Rattle.report_lines.specs.Pieces.{Piece, line, text, number}
+use Rattle.report_lines.specs.Pieces.{Piece, line, text, number, reference_or_none}
+use Rattle.book_sections.specs.References.{result_reference}
 use Rattle.report_lines.specs.Bits.{has_bit, bits_told_from, bits_between}
-use Rattle.value_words.specs.Words.{word_in}
+use Rattle.report_lines.specs.Tables.{word_in}
 use Rattle.value_words.specs.declared.bits.TheConstants.{RESULT_BITS}
 use Rattle.value_words.specs.declared.asking.Row.{Row}
 use Rattle.object_words.specs.declared.style.KnownCodes.{KnownCodes}
@@ -18,10 +19,12 @@ abbrev pub behind_blank : Option (List ℕ) → List Piece
 behind_blank None = []
 behind_blank (Some word) = text (codes " ") ++ text word
 
--- a bit of 40 by its place from 0 at the left: byte and bit, and its words
+-- a bit of 40 by its place from 0 at the left: byte and bit, its words, and where it stands
 abbrev pub result_bit_words : ℕ → List Piece
 result_bit_words place =
-    number (place / 8 + 1) ++ text (codes ".") ++ number (8 - place % 8) ++ behind_blank (result_word (place / 8 * 10 + 10 + (8 - place % 8)))
+    number (place / 8 + 1) ++ text (codes ".") ++ number (8 - place % 8)
+    ++ behind_blank (result_word (place / 8 * 10 + 10 + (8 - place % 8)))
+    ++ reference_or_none (result_reference (place / 8 * 10 + 10 + (8 - place % 8)))
 
 -- a code that has the bit, behind others or first
 abbrev pub holder_words : Bool → Bool → List ℕ → List Piece

@@ -7,8 +7,8 @@ ghost use Rattle.report_lines.specs.Bits.{has_bit as is_set};
 ghost use Rattle.report_lines.specs.Pieces as piece;
 ghost use Rattle.report_lines.specs.Pieces.{Tells};
 
-use report_lines::WordLines;
-use value_words::{tell_hex, word_of};
+use report_lines::{WordLines, word_of};
+use value_words::tell_hex;
 
 /// Whether a byte has the bit of this place, from 0 at the left.
 fn has_bit(byte: u8, place: u8) -> bool
@@ -68,11 +68,17 @@ pub(crate) fn tell_bits(out: &mut WordLines, value: &[u8])
 }
 
 /// Tells the word of a bit in a table, of the byte of this number from 1 and its bit from 1 to 8, or BYTE.BIT where it
-/// has none.
-pub fn tell_bit_word(out: &mut WordLines, table: &[(u32, &'static [u8])], number: u32, bit: u8)
+/// has none, and its reference in another table.
+pub fn tell_bit_word(
+    out: &mut WordLines,
+    table: &[(u32, &'static [u8])],
+    references: &[(u32, &'static [u8])],
+    number: u32,
+    bit: u8,
+)
     requires number { number ≤ 100 }
     requires bit { bit ≤ 8 }
-    ensures { Tells out.old out.new (spec.bit_word (map (λ w. (w.0, w.1.now)) table.now) number bit) }
+    ensures { Tells out.old out.new (spec.bit_word (map (λ w. (w.0, w.1.now)) table.now) (map (λ w. (w.0, w.1.now)) references.now) number bit) }
 {
     match word_of(table, number * 10 + u32::from(bit)) {
         Some(word) => out.text(word),
@@ -82,12 +88,14 @@ pub fn tell_bit_word(out: &mut WordLines, table: &[(u32, &'static [u8])], number
             out.number(u64::from(bit));
         }
     }
+    out.reference_of(word_of(references, number * 10 + u32::from(bit)));
 }
 
 /// Tells the word of a bit that is set behind a comma.
 fn tell_word_at(
     out: &mut WordLines,
     table: &[(u32, &'static [u8])],
+    references: &[(u32, &'static [u8])],
     number: u32,
     byte: u8,
     place: u8,
@@ -95,50 +103,62 @@ fn tell_word_at(
     requires number { number ≤ 100 }
     requires place { place < 8 }
     ensures { Tells out.old out.new
-        (if is_set 8 byte place then piece.text (codes ", ") ++ spec.word_at (map (λ w. (w.0, w.1.now)) table.now) number place else []) }
+        (if is_set 8 byte place then piece.text (codes ", ") ++ spec.word_at (map (λ w. (w.0, w.1.now)) table.now) (map (λ w. (w.0, w.1.now)) references.now) number place else []) }
 {
     if has_bit(byte, place) {
         out.text(b", ");
-        tell_bit_word(out, table, number, 8 - place);
+        tell_bit_word(out, table, references, number, 8 - place);
     }
 }
 
 /// Tells the words of a byte's bits that are set, each behind a comma; a bit without words as BYTE.BIT.
-fn tell_words_of(out: &mut WordLines, table: &[(u32, &'static [u8])], number: u32, byte: u8)
+fn tell_words_of(
+    out: &mut WordLines,
+    table: &[(u32, &'static [u8])],
+    references: &[(u32, &'static [u8])],
+    number: u32,
+    byte: u8,
+)
     requires { number ≤ 100 }
-    ensures { Tells out.old out.new (spec.byte_words (map (λ w. (w.0, w.1.now)) table.now) number byte) }
+    ensures { Tells out.old out.new (spec.byte_words (map (λ w. (w.0, w.1.now)) table.now) (map (λ w. (w.0, w.1.now)) references.now) number byte) }
 {
     for place in 0..8u8 {
-        tell_word_at(out, table, number, byte, place);
+        tell_word_at(out, table, references, number, byte, place);
     }
 }
 
-/// Tells the words of the bits that are set, each behind a comma.
-pub(crate) fn tell_bit_words(out: &mut WordLines, table: &[(u32, &'static [u8])], value: &[u8])
+/// Tells the words of the bits that are set, each behind a comma, with their references.
+pub(crate) fn tell_bit_words(
+    out: &mut WordLines,
+    table: &[(u32, &'static [u8])],
+    references: &[(u32, &'static [u8])],
+    value: &[u8],
+)
     requires { length value.now ≤ 100 }
-    ensures { Tells out.old out.new (spec.bit_words (map (λ w. (w.0, w.1.now)) table.now) value.now) }
+    ensures { Tells out.old out.new (spec.bit_words (map (λ w. (w.0, w.1.now)) table.now) (map (λ w. (w.0, w.1.now)) references.now) value.now) }
 {
     for (index, byte) in value.iter().enumerate() {
-        tell_words_of(out, table, index as u32 + 1, *byte);
+        tell_words_of(out, table, references, index as u32 + 1, *byte);
     }
 }
 
-/// Tells bytes of this number, and the words of their bits.
+/// Tells bytes of this number, and the words of their bits with their references.
 pub(crate) fn tell_flags(
     out: &mut WordLines,
     table: &[(u32, &'static [u8])],
+    references: &[(u32, &'static [u8])],
     count: usize,
     value: &[u8],
 ) -> bool
     requires { count ≤ 100 }
-    ensures words { Tells out.old out.new (or_nothing (spec.table_flags_words (map (λ w. (w.0, w.1.now)) table.now) count value.now)) }
-    ensures told { result ≡ is_some (spec.table_flags_words (map (λ w. (w.0, w.1.now)) table.now) count value.now) }
+    ensures words { Tells out.old out.new (or_nothing (spec.table_flags_words (map (λ w. (w.0, w.1.now)) table.now) (map (λ w. (w.0, w.1.now)) references.now) count value.now)) }
+    ensures told { result ≡ is_some (spec.table_flags_words (map (λ w. (w.0, w.1.now)) table.now) (map (λ w. (w.0, w.1.now)) references.now) count value.now) }
 {
     if value.len() != count {
         return false;
     }
     out.hex(value);
-    tell_bit_words(out, table, value);
+    tell_bit_words(out, table, references, value);
     true
 }
 

@@ -6,8 +6,8 @@ ghost use Rattle.report_lines.specs.Pieces.{Tells};
 
 use crate::phrases::NO_SCRIPT_COMMAND;
 use emv_dict::amount_of;
-use report_lines::WordLines;
-use value_words::{SCRIPT_COMMANDS, all_digits, number_in, word_of};
+use report_lines::{WordLines, word_of};
+use value_words::{SCRIPT_COMMANDS, all_digits, number_in};
 
 /// PUT DATA of the limit of the number of offline approvals.
 const COUNT_LIMIT: u32 = 0x04da_df01;

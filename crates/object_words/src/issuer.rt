@@ -10,8 +10,9 @@ use crate::phrases::{
     RESPONSE_CRYPTOGRAM, STATUS_UPDATE,
 };
 use crate::style::Style;
-use report_lines::WordLines;
-use value_words::{CRYPTOGRAMS, RESPONSES, UPDATE_BITS, word_of};
+use book_sections::{SETTLED, response_reference};
+use report_lines::{WordLines, word_of};
+use value_words::{CRYPTOGRAMS, RESPONSES, UPDATE_BITS};
 
 /// The response code 00.
 const APPROVED: u32 = 0x3030;
@@ -122,7 +123,7 @@ fn tell_update(out: &mut WordLines, update: [u8; 4])
     out.hex(&update);
     out.text(b": ");
     tell_approval(out, first);
-    tell_bit_words(out, &UPDATE_BITS, &[0, second & 0xf0]);
+    tell_bit_words(out, &UPDATE_BITS, &[], &[0, second & 0xf0]);
 }
 
 /// Tells a response cryptogram of four bytes and a card status update of four.
@@ -197,14 +198,22 @@ fn response_word(code: u32) -> Option<&'static [u8]>
     word_of(&RESPONSES, code)
 }
 
-/// Tells the words of a response code, which is the number of its two characters.
-pub fn tell_response_words(out: &mut WordLines, code: u32)
-    ensures { Tells out.old out.new (spec.response_words code) }
+/// Tells the word of a response code.
+fn tell_response_word(out: &mut WordLines, code: u32)
+    ensures { Tells out.old out.new (spec.known_response_words code) }
 {
     match response_word(code) {
         Some(word) => out.text(word),
         None => out.text(b"not known"),
     }
+}
+
+/// Tells the words of a response code, which is the number of its two characters, and where it stands.
+pub fn tell_response_words(out: &mut WordLines, code: u32)
+    ensures { Tells out.old out.new (spec.response_words code) }
+{
+    tell_response_word(out, code);
+    out.reference_of(response_reference(code));
 }
 
 /// Tells what became of a message of the settlement.
@@ -213,8 +222,10 @@ fn tell_answer(out: &mut WordLines, code: u32, words: &[u8])
 {
     if code == APPROVED {
         out.text(words);
+        out.reference(SETTLED);
     } else if code == NOT_APPROVED {
         out.text(REFUSED);
+        out.reference(SETTLED);
     } else {
         tell_response_words(out, code);
     }

@@ -15,6 +15,7 @@ use crate::results::tell_result_lines;
 use crate::style::{ResultsStyle, Style};
 use crate::track::tell_track;
 use ber_tlv::{Cursor, Item, Tag, first_fault, is_constructed, tag_bytes};
+use book_sections::STATUS_REFERENCES;
 use report_lines::WordLines;
 use value_words::{
     ADDITIONAL_BITS, CAPABILITY_BITS, Form, INTERCHANGE_BITS, STATUS_BITS, TERMINAL_TYPES, TRADES,
@@ -71,11 +72,11 @@ fn tell_by_table(out: &mut WordLines, form: Form, value: &[u8], style: &Style) -
     ensures told { result ≡ is_some (spec.table_words form style.now value.now) }
 {
     match form {
-        Form::Interchange => tell_flags(out, &INTERCHANGE_BITS, 2, value),
-        Form::Usage => tell_flags(out, &USAGE_BITS, 2, value),
-        Form::Capabilities => tell_flags(out, &CAPABILITY_BITS, 3, value),
-        Form::Additional => tell_flags(out, &ADDITIONAL_BITS, 5, value),
-        Form::Status => tell_flags(out, &STATUS_BITS, 2, value),
+        Form::Interchange => tell_flags(out, &INTERCHANGE_BITS, &[], 2, value),
+        Form::Usage => tell_flags(out, &USAGE_BITS, &[], 2, value),
+        Form::Capabilities => tell_flags(out, &CAPABILITY_BITS, &[], 3, value),
+        Form::Additional => tell_flags(out, &ADDITIONAL_BITS, &[], 5, value),
+        Form::Status => tell_flags(out, &STATUS_BITS, &STATUS_REFERENCES, 2, value),
         Form::Results => tell_verification(out, value, style),
         Form::TerminalType => tell_coded(out, &TERMINAL_TYPES, value),
         Form::Trade => tell_coded(out, &TRADES, value),

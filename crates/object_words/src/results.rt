@@ -7,8 +7,9 @@ ghost use Rattle.report_lines.specs.Pieces.{Tells};
 
 use crate::phrases::IN_NO_CARD_CODE;
 use crate::style::KnownCodes;
-use report_lines::WordLines;
-use value_words::{RESULT_BITS, Row, has_bit, word_of};
+use book_sections::result_reference;
+use report_lines::{WordLines, word_of};
+use value_words::{RESULT_BITS, Row, has_bit};
 
 /// Tells one code that has the bit, where it has it; whether any code was told.
 fn tell_holder(out: &mut WordLines, told: bool, holds: bool, name: &[u8]) -> bool
@@ -110,7 +111,7 @@ fn result_word(bit: u32) -> Option<&'static [u8]>
     word_of(&RESULT_BITS, bit)
 }
 
-/// Tells a bit by its place among 40, from 0 at the left: byte and bit, and its words.
+/// Tells a bit by its place among 40, from 0 at the left: byte and bit, its words, and where it stands.
 pub(crate) fn tell_result_bit(out: &mut WordLines, place: u8)
     requires { place < 40 }
     ensures { Tells out.old out.new (spec.result_bit_words place) }
@@ -123,6 +124,7 @@ pub(crate) fn tell_result_bit(out: &mut WordLines, place: u8)
         out.text(b" ");
         out.text(word);
     }
+    out.reference_of(result_reference(bit));
 }
 
 /// Tells a bit that is set in a line of its own at this level, with the codes that have it where they are

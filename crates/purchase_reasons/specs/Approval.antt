@@ -19,9 +19,11 @@ sum_and_limit counters limits currency =
     else second_sum_and_limit counters limits currency limits.second_currency
 
 -- whether something is within its limit, and the limit
+abbrev pub within_or_above : Bool → List Piece
+within_or_above is_within = (if is_within then text (codes "within the limit ") else text (codes "above the limit "))
+
 abbrev pub within_words : Bool → ℕ → List Piece
-within_words is_within limit =
-    (if is_within then text (codes "within the limit ") else text (codes "above the limit ")) ++ number limit
+within_words is_within limit = within_or_above is_within ++ number limit
 
 -- one more approval is within the limit of their number
 abbrev pub count_words : ℕ → ℕ → List Piece

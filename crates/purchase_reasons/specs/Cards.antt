@@ -2,7 +2,8 @@
 use Rattle.std.specs.Prelude.{Bool, true, false, ◌||◌, if◌then◌else◌, List, [], ◌++◌, codes, Option, Some, None}
 use Rattle.emv_dict.specs.declared.ending.Kind.{Kind}
 use Rattle.emv_dict.specs.declared.ending.Kind.TheVariants.{Aac, Tc, Arqc}
-use Rattle.report_lines.specs.Pieces.{Piece, text}
+use Rattle.report_lines.specs.Pieces.{Piece, text, reference}
+use Rattle.book_sections.specs.declared.references.TheConstants.{FIRST_KIND, SECOND_KIND}
 use Rattle.value_words.specs.Statuses.{kind_name}
 use Rattle.purchase_reasons.specs.Approval.{offline_approval_words}
 use Rattle.purchase_reasons.specs.declared.approval.Facts.{Facts}
@@ -78,13 +79,15 @@ asked_and_answered asked answered = text (codes "asked for ") ++ text (kind_name
 abbrev pub asked_alone : Kind → List Piece
 asked_alone asked = text (codes "asked for ") ++ text (kind_name asked) ++ text (codes " it gave no cryptogram")
 
--- the first question, its answer, and why
+-- the first question, its answer, and why, with the rule
 abbrev pub first_card_words : Kind → Option Kind → Facts → List Piece
 first_card_words asked None facts = asked_alone asked
-first_card_words asked (Some answered) facts = asked_and_answered asked answered ++ card_reason_words (first_card_reason asked answered) facts
+first_card_words asked (Some answered) facts =
+    asked_and_answered asked answered ++ card_reason_words (first_card_reason asked answered) facts ++ reference FIRST_KIND.now
 
--- the second question, its answer, and why
+-- the second question, its answer, and why, with the rule
 abbrev pub second_card_words : Second → Option Kind → Facts → List Piece
 second_card_words second None facts = asked_alone second.asked
 second_card_words second (Some answered) facts =
     asked_and_answered second.asked answered ++ card_reason_words (second_card_reason second.asked answered second.replied second.standing) facts
+    ++ reference SECOND_KIND.now

@@ -2,7 +2,7 @@
 use Rattle.std.specs.Prelude.{ℕ, Bool, true, false, if◌then◌else◌, List, [], ◌++◌, codes, Option, Some, None, unwrap_or, is_some}
 use Rattle.emv_dict.specs.declared.ending.Kind.{Kind}
 use Rattle.report_lines.specs.Pieces.{Piece, line, text}
-use Rattle.value_words.specs.ReasonWords.{reason_words}
+use Rattle.exchange_words.specs.Because.{cited_reason}
 use Rattle.value_words.specs.Statuses.{kind_name}
 use Rattle.value_words.specs.declared.reason.Reason.{Reason}
 use Rattle.exchange_words.specs.declared.lane.LaneState.{LaneState}
@@ -16,7 +16,7 @@ use Rattle.purchase_reasons.specs.declared.followed.Followed.{Followed}
 
 -- a kind that was asked for, and why
 abbrev pub asked_because : Kind → Reason → Bool → List ℕ → List Piece
-asked_because asked reason second code = text (kind_name asked) ++ text (codes " because ") ++ reason_words reason second code
+asked_because asked reason second code = text (kind_name asked) ++ text (codes " because ") ++ cited_reason reason second code
 
 -- the first question
 abbrev pub first_because : Option Kind → Option Reason → List Piece

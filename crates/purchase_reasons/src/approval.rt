@@ -54,15 +54,22 @@ fn is_sum_within(sum: u64, amount: u64, limit: u64) -> bool
     amount <= limit && sum <= limit - amount
 }
 
-/// Tells whether something is within its limit, and the limit.
-fn tell_limit(out: &mut WordLines, is_within: bool, limit: u64)
-    ensures { Tells out.old out.new (spec.within_words is_within limit) }
+/// Tells whether something is within its limit.
+fn tell_within(out: &mut WordLines, is_within: bool)
+    ensures { Tells out.old out.new (spec.within_or_above is_within) }
 {
     if is_within {
         out.text(b"within the limit ");
     } else {
         out.text(b"above the limit ");
     }
+}
+
+/// Tells whether something is within its limit, and the limit.
+fn tell_limit(out: &mut WordLines, is_within: bool, limit: u64)
+    ensures { Tells out.old out.new (spec.within_words is_within limit) }
+{
+    tell_within(out, is_within);
     out.number(limit);
 }
 

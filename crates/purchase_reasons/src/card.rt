@@ -5,6 +5,7 @@ ghost use Rattle.report_lines.specs.Pieces.{Tells};
 
 use crate::approval::{Facts, tell_approval};
 use crate::followed::Standing;
+use book_sections::{FIRST_KIND, SECOND_KIND};
 use emv_dict::Kind;
 use exchange_words::kind_name;
 use report_lines::WordLines;
@@ -174,6 +175,7 @@ pub(crate) fn tell_first(out: &mut WordLines, asked: Kind, answered: Option<Kind
         Some(answered) => {
             tell_answered(out, asked, answered);
             tell_card_reason(out, first_reason(asked, answered), facts);
+            out.reference(FIRST_KIND);
         }
         None => tell_unanswered(out, asked),
     }
@@ -198,6 +200,7 @@ pub(crate) fn tell_second(out: &mut WordLines, second: &Second, facts: &Facts)
             tell_answered(out, second.asked, answered);
             let reason = second_reason(second.asked, answered, second.replied, &second.standing);
             tell_card_reason(out, reason, facts);
+            out.reference(SECOND_KIND);
         }
         None => tell_unanswered(out, second.asked),
     }

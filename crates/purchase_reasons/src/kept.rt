@@ -123,7 +123,7 @@ fn limits_behind(made: &Limits, set: &ChangedLimits) -> Option<Limits>
 }
 
 /// The limits of an application behind the scripts that came.
-fn limits_now(app: &CardApp, changed: &[ChangedLimits]) -> Option<Limits>
+pub(crate) fn limits_now(app: &CardApp, changed: &[ChangedLimits]) -> Option<Limits>
     ensures { result ≡ spec.limits_now app.now changed.now }
 {
     match changed_place(changed, app.card.as_slice(), app.name.as_slice()) {
@@ -158,7 +158,7 @@ fn counters_seen<'a>(seen: &'a [CardSeen], name: &[u8]) -> &'a [Counters]
 }
 
 /// The counters of the application at this place.
-fn counters_at(counters: &[Counters], place: usize) -> Option<Counters>
+pub(crate) fn counters_at(counters: &[Counters], place: usize) -> Option<Counters>
     ensures { result ≡ spec.counters_at counters.now place }
 {
     match counters.get(place) {

@@ -5,9 +5,9 @@ ghost use Rattle.report_lines.specs.Pieces.{Tells};
 
 use crate::followed::Followed;
 use emv_dict::Kind;
-use exchange_words::{LaneState, kind_name};
+use exchange_words::{LaneState, kind_name, tell_cited_reason};
 use report_lines::WordLines;
-use value_words::{Reason, tell_reason};
+use value_words::Reason;
 
 /// Tells a kind that was asked for, and why.
 fn tell_because(out: &mut WordLines, asked: Kind, reason: Reason, second: bool, code: [u8; 2])
@@ -15,7 +15,7 @@ fn tell_because(out: &mut WordLines, asked: Kind, reason: Reason, second: bool, 
 {
     out.text(kind_name(asked));
     out.text(b" because ");
-    tell_reason(out, reason, second, code);
+    tell_cited_reason(out, reason, second, code);
 }
 
 /// Tells the first question of this kind, where its reason is known.

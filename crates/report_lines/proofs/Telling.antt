@@ -2,20 +2,20 @@
 use Rattle.std.proofs.Common.{◌≡◌, ℕ, ◌+◌, ◌-◌, ◌<◌, ◌≤◌, Bool, true, false, ◌||◌, List, [], ◌∷◌, ◌++◌, cond, map, suc, refl, sym, ap, subst, ◌∙◌, arith}
 use Rattle.std.specs.List.{filter, range_with_len}
 use Rattle.std.proofs.lemmas.List.Sums.{fold-append}
-use Rattle.report_lines.specs.Lines.{WordsData}
+use Rattle.report_lines.specs.Lines.{MadeLines, WordsData}
 use Rattle.report_lines.specs.Bits.{has_bit, bits_told_from}
 use Rattle.report_lines.specs.Pieces.{Piece, Tells, put, with_piece, joined}
 
 -- pieces one behind the other
-pub put-append : (bytes : List ℕ) (first second : List Piece) → put bytes (first ++ second) ≡ put (put bytes first) second
-put-append bytes first second = fold-append with_piece bytes first second
+pub put-append : (made : MadeLines) (first second : List Piece) → put made (first ++ second) ≡ put (put made first) second
+put-append made first second = fold-append with_piece made first second
 
 -- and what was told of them
 pub tells_then : (old mid new : WordsData) (first second : List Piece) → Tells old mid first → Tells mid new second → Tells old new (first ++ second)
 tells_then old mid new first second before after = λ none.
     let later = after none in
     let earlier = before later.0 in
-    (earlier.0, later.1 ∙ ap (λ (b : List ℕ). put b second) earlier.1 ∙ sym (put-append old.bytes first second))
+    (earlier.0, later.1 ∙ ap (λ (m : MadeLines). put m second) earlier.1 ∙ sym (put-append old.made first second))
 
 -- nothing was told
 pub tells_nothing : (words : WordsData) → Tells words words []

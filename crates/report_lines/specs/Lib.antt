@@ -6,3 +6,4 @@ pub mod Lines
 pub mod Parts
 pub mod Pieces
 pub mod Reading
+pub mod Tables

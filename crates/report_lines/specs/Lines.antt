@@ -3,9 +3,14 @@ use Rattle.std.specs.Prelude.{ℕ, ◌≡◌, ◌-◌, ◌*◌, ◌==◌, Bool, 
 use Rattle.std.specs.List.{fold}
 use Rattle.report_lines.specs.declared.lines.TheConstants.{BLANKS}
 
+-- lines, of which the last one may be open, and whether references are told in them
+pub record MadeLines : Type 0 where
+  pub bytes : List ℕ
+  pub books : Bool
+
 -- what contracts see of the buffer
 pub record WordsData : Type 0 where
-  pub bytes : List ℕ
+  pub made : MadeLines
   pub failed : Bool
 
 -- how far a line has come: 0 none is open, 1 behind its first blank, 2 behind the second; 3 it is no such line

@@ -1,26 +1,37 @@
 -- What is told behind a line of a report, piece by piece.
-use Rattle.std.specs.Prelude.{ℕ, ◌≡◌, Bool, true, false, List, [], ◌∷◌, ◌++◌, map, decimal, Option, Some, None}
+use Rattle.std.specs.Prelude.{ℕ, ◌≡◌, Bool, true, false, if◌then◌else◌, List, [], ◌∷◌, ◌++◌, map, decimal, codes, Option, Some, None}
 use Rattle.std.specs.List.{fold, flat_map}
 use Rattle.report_lines.specs.Hex.{pair_text}
-use Rattle.report_lines.specs.Lines.{WordsData, line_opened, line_begun, shown_character, line_closed}
+use Rattle.report_lines.specs.Lines.{MadeLines, WordsData, line_opened, line_begun, shown_character, line_closed}
 
--- a piece: a new line of this level, or characters behind those of the open line
+-- a piece: a new line of this level; characters behind those of the open line; where a reason stands, in the Books or elsewhere
 pub data Piece : Type 0 where
   NewLine : ℕ → Piece
   Characters : List ℕ → Piece
+  Reference : List ℕ → Piece
 
--- the bytes with a piece behind them; characters begin a line where none is open
-unfoldable pub with_piece : List ℕ → Piece → List ℕ
-with_piece bytes (NewLine level) = line_begun bytes level
-with_piece bytes (Characters characters) = line_opened bytes ++ map shown_character characters
+-- the lines with characters behind them, which begin a line where none is open
+abbrev pub with_characters : MadeLines → List ℕ → MadeLines
+with_characters made characters = record made { bytes = line_opened made.bytes ++ map shown_character characters }
 
--- the bytes with these pieces behind them
-abbrev pub put : List ℕ → List Piece → List ℕ
-put bytes pieces = fold with_piece bytes pieces
+-- the lines with a piece behind them; a reference stands in brackets behind a blank, and only where references are told
+unfoldable pub with_piece : MadeLines → Piece → MadeLines
+with_piece made (NewLine level) = record made { bytes = line_begun made.bytes level }
+with_piece made (Characters characters) = with_characters made characters
+with_piece made (Reference reference) =
+    if made.books then with_characters (with_characters (with_characters made (codes " (")) reference) (codes ")") else made
 
--- the lines that the pieces make
-abbrev pub lines_of : List Piece → List ℕ
-lines_of pieces = line_closed (put [] pieces)
+-- the lines with these pieces behind them
+abbrev pub put : MadeLines → List Piece → MadeLines
+put made pieces = fold with_piece made pieces
+
+-- no lines yet
+abbrev pub no_lines : Bool → MadeLines
+no_lines books = record { bytes = []; books = books }
+
+-- the lines that the pieces make, with references or without
+abbrev pub lines_of : Bool → List Piece → List ℕ
+lines_of books pieces = line_closed (put (no_lines books) pieces).bytes
 
 -- a new line
 abbrev pub line : ℕ → List Piece
@@ -29,6 +40,10 @@ line level = NewLine level ∷ []
 -- characters
 abbrev pub text : List ℕ → List Piece
 text characters = Characters characters ∷ []
+
+-- where a reason stands
+abbrev pub reference : List ℕ → List Piece
+reference characters = Reference characters ∷ []
 
 -- a number in decimal
 abbrev pub number : ℕ → List Piece
@@ -43,6 +58,11 @@ abbrev pub word_or : List Piece → Option (List ℕ) → List Piece
 word_or other None = other
 word_or other (Some word) = text word
 
+-- the reference of what has one
+abbrev pub reference_or_none : Option (List ℕ) → List Piece
+reference_or_none None = []
+reference_or_none (Some found) = reference found
+
 -- each of these behind something
 abbrev pub each_behind : List Piece → List (List Piece) → List Piece
 each_behind between [] = []
@@ -56,4 +76,4 @@ joined false between (one ∷ others) = one ++ each_behind between others
 
 -- the pieces were put behind what stood there, unless memory ended; what has failed stays so
 abbrev pub Tells : WordsData → WordsData → List Piece → Type 0
-Tells old new pieces = new.failed ≡ false → (old.failed ≡ false) × (new.bytes ≡ put old.bytes pieces)
+Tells old new pieces = new.failed ≡ false → (old.failed ≡ false) × (new.made ≡ put old.made pieces)

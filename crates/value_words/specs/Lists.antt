@@ -1,9 +1,10 @@
 -- Values that are lists, in words: rules, groups of records, entries (EMV 4.3 Book 3 sections 5.4, 10.2, 10.5, Book 4
 -- Annex A4).
 use Rattle.std.specs.Prelude.{ℕ, ◌/◌, ◌%◌, ◌==◌, Bool, false, not, ◌&&◌, nat_le, if◌then◌else◌, List, [], ◌∷◌, ◌++◌, length, map, take, drop, slice_index, codes, Option, Some, None}
-use Rattle.report_lines.specs.Pieces.{Piece, line, text, number, hex, joined}
+use Rattle.report_lines.specs.Pieces.{Piece, line, text, number, hex, joined, reference, reference_or_none}
 use Rattle.ber_tlv.specs.Written.{tag_bytes}
-use Rattle.value_words.specs.Words.{word_in}
+use Rattle.book_sections.specs.References.{outcome_reference, verification_reference}
+use Rattle.report_lines.specs.Tables.{word_in}
 use Rattle.value_words.specs.declared.codes.TheConstants.{OUTCOMES}
 use Rattle.value_words.specs.Fields.{list_entries, is_whole_list}
 use Rattle.value_words.specs.Plain.{binary_number, told_if}
@@ -37,11 +38,14 @@ abbrev pub outcome_words : Option (List ℕ) → List Piece
 outcome_words None = []
 outcome_words (Some word) = text (codes ": ") ++ text word
 
--- the rule that was performed and its outcome; 3F in place of a method says that none was (EMV 4.3 Book 4 Annex A4)
+-- the rule that was performed and its outcome, and where they stand; 3F in place of a method says that none was (EMV 4.3
+-- Book 4 Annex A4)
 unfoldable pub performed_rule : ℕ → ℕ → ℕ → List Piece
 performed_rule method condition outcome =
-    if method == 0x3F then text NO_RULE.now
-    else rule_words method condition ++ outcome_words (word_in (map (λ w. (w.0, w.1.now)) OUTCOMES) outcome)
+    if method == 0x3F then text NO_RULE.now ++ reference (verification_reference method outcome)
+    else
+    rule_words method condition ++ reference (verification_reference method outcome)
+    ++ outcome_words (word_in (map (λ w. (w.0, w.1.now)) OUTCOMES) outcome) ++ reference_or_none (outcome_reference outcome)
 
 -- the result of cardholder verification
 abbrev pub method_result_words : List ℕ → Option (List Piece)

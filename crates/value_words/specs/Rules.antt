@@ -1,7 +1,7 @@
 -- Rules of cardholder verification in words (EMV 4.3 Book 3 Annex C3).
 use Rattle.std.specs.Prelude.{ℕ, ◌%◌, List, [], ◌∷◌, ◌++◌, map, codes, Option}
 use Rattle.report_lines.specs.Pieces.{Piece, text, hex, word_or}
-use Rattle.value_words.specs.Words.{word_in}
+use Rattle.report_lines.specs.Tables.{word_in}
 use Rattle.value_words.specs.declared.codes.TheConstants.{METHODS, CONDITIONS}
 use Rattle.value_words.specs.declared.phrases.TheConstants.{UNKNOWN_METHOD, UNKNOWN_CONDITION}
 

@@ -1,19 +1,9 @@
--- Tables of words: what is looked up in them, and what they hold.
+-- The table of names, and what tables of words hold.
 use Rattle.std.specs.Prelude.{ℕ, ◌==◌, ◌+◌, ◌*◌, Bool, true, not, ◌&&◌, if◌then◌else◌, List, [], ◌∷◌, map, Option, Some, None, is_some}
 use Rattle.std.specs.List.{list_any, list_all, flat_map}
 use Rattle.std.specs.Str.{bytes_eq}
 use Rattle.emv_dict.specs.Dictionary.{Listed}
 use Rattle.value_words.specs.declared.names.Form.{Form}
-
--- the word of a code, where the table has one
-unfoldable pub word_in : List (ℕ × List ℕ) → ℕ → Option (List ℕ)
-word_in [] code = None
-word_in (w ∷ ws) code = (if w.0 == code then Some w.1 else word_in ws code)
-
--- the word of a text
-unfoldable pub text_in : List (List ℕ × List ℕ) → List ℕ → Option (List ℕ)
-text_in [] text = None
-text_in (w ∷ ws) text = (if bytes_eq w.0 text then Some w.1 else text_in ws text)
 
 -- the name of a tag, and how its value is told
 unfoldable pub tag_name_in : List (ℕ × List ℕ × Form) → ℕ → Option (List ℕ × Form)

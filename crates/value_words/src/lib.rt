@@ -27,9 +27,9 @@ pub use codes::{
     RESPONSES, SCRIPT_COMMANDS, STATUSES, STEPS, TERMINAL_TYPES, TRADES,
 };
 pub use fields::{Fields, fits, has_field, next_entry, next_field, value_in};
-pub use laws::tables_are_whole;
+pub use laws::{references_are_whole, tables_are_whole};
 pub use lists::{tell_list, tell_locator, tell_method_result, tell_methods, tell_performed_rule};
-pub use look_up::{name_of, word_of, word_of_text};
+pub use look_up::name_of;
 pub use names::{Form, NAMES};
 pub use plain::{
     all_digits, digits_in, number_in, tell_amount, tell_code, tell_date, tell_digits, tell_hex,

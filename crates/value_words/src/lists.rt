@@ -9,11 +9,11 @@ ghost use Rattle.report_lines.specs.Pieces.{Tells};
 
 use crate::codes::{CONDITIONS, METHODS, OUTCOMES};
 use crate::fields::next_entry;
-use crate::look_up::word_of;
 use crate::phrases::{FAIL, GO_ON, NO_RULE, UNKNOWN_CONDITION, UNKNOWN_METHOD};
 use crate::plain::number_in;
 use ber_tlv::{Tag, tag_bytes};
-use report_lines::WordLines;
+use book_sections::{outcome_reference, verification_reference};
+use report_lines::{WordLines, word_of};
 
 /// In place of a method: no rule was performed.
 const NO_METHOD: u8 = 0x3f;
@@ -129,17 +129,20 @@ fn tell_outcome(out: &mut WordLines, word: Option<&'static [u8]>)
     }
 }
 
-/// Tells the rule of cardholder verification that was performed, and its outcome; 3F in place of a method says that
-/// none was (EMV 4.3 Book 4 Annex A4).
+/// Tells the rule of cardholder verification that was performed, and its outcome, and where they stand; 3F in place of a
+/// method says that none was (EMV 4.3 Book 4 Annex A4).
 #[tactic(auto, unfolding(crate::specs::Lists::performed_rule))]
 pub fn tell_performed_rule(out: &mut WordLines, method: u8, condition: u8, outcome: u8)
     ensures { Tells out.old out.new (spec.performed_rule method condition outcome) }
 {
     if method == NO_METHOD {
         out.text(NO_RULE);
+        out.reference(verification_reference(method, outcome));
     } else {
         tell_rule(out, method, condition);
+        out.reference(verification_reference(method, outcome));
         tell_outcome(out, word_of(&OUTCOMES, u32::from(outcome)));
+        out.reference_of(outcome_reference(u32::from(outcome)));
     }
 }
 

@@ -4,10 +4,10 @@ ghost use Rattle.value_words.specs.Statuses as spec;
 ghost use Rattle.report_lines.specs.Pieces.{Tells};
 
 use crate::codes::{ANSWERS, STATUSES};
-use crate::look_up::word_of;
 use crate::phrases::WRONG_PIN;
 use apdu_core::status::counter_in as tries_in;
-use report_lines::WordLines;
+use book_sections::{TRIES_LEFT, status_reference};
+use report_lines::{WordLines, word_of};
 
 /// The tries that a status of VERIFY leaves; `None` where it is another command's, or tells none.
 fn tries_left(instruction: u8, status: u16) -> Option<u8>
@@ -42,6 +42,7 @@ fn tell_other_status(out: &mut WordLines, instruction: u8, status: u16)
         Some(left) => {
             out.text(WRONG_PIN);
             out.number(u64::from(left));
+            out.reference(TRIES_LEFT);
         }
         None => match status_word(u32::from(status)) {
             Some(word) => out.text(word),
@@ -50,7 +51,7 @@ fn tell_other_status(out: &mut WordLines, instruction: u8, status: u16)
     }
 }
 
-/// Tells the words of a status behind a command of this instruction.
+/// Tells the words of a status behind a command of this instruction, and where it stands.
 pub fn tell_status(out: &mut WordLines, instruction: u8, status: u16)
     ensures { Tells out.old out.new (spec.status_words instruction status) }
 {
@@ -58,6 +59,7 @@ pub fn tell_status(out: &mut WordLines, instruction: u8, status: u16)
         Some(word) => out.text(word),
         None => tell_other_status(out, instruction, status),
     }
+    out.reference_of(status_reference(instruction, status));
 }
 
 /// Tells a status in a line of its own.

@@ -6,9 +6,9 @@ use Rattle.explain.proofs.Coming.{so_far_flush_at}
 use Rattle.explain.proofs.told.flush.Goals as goal
 
 pub returns-in-Ok-clause-ok : goal.returns-in-Ok-clause-ok
-returns-in-Ok-clause-ok g c = λ seen first s.
-    so_far_flush_at (way_in c.args.teller.now) (stand_of c.args.teller.now) c.args.teller.now.line.items seen c.as_slice.result.now c.clear.new.self.items first
-    (g.K.Sink.held c.args.sink.now) (g.K.Sink.held c.put_rest.new.sink) c.as_slice.ensures.value c.clear.ensures c.requires s c.in-Ok.ensures.all
+returns-in-Ok-clause-ok g c = λ seen first byte other s.
+    so_far_flush_at (way_in c.args.teller.now) (stand_of c.args.teller.now) c.args.teller.now.line.items seen c.as_slice.result.now c.clear.new.self.items byte first
+    (g.K.Sink.held c.args.sink.now) (g.K.Sink.held c.put_rest.new.sink) c.as_slice.ensures.value c.clear.ensures c.requires other s c.in-Ok.ensures.all
 
 pub returns-in-Err-clause-front : goal.returns-in-Err-clause-front
 returns-in-Err-clause-front g c =

@@ -8,10 +8,10 @@ loop-index-init c = left_start _ _
 
 pub loop-index-preserved : goal.loop-index-preserved
 loop-index-preserved c =
-    let next = words_next (map (λ w. (w.0, w.1.now)) c.args.table.now) c.args.value.now c.loop-index.index (omega arith) in
+    let next = words_next (map (λ w. (w.0, w.1.now)) c.args.table.now) (map (λ w. (w.0, w.1.now)) c.args.references.now) c.args.value.now c.loop-index.index (omega arith) in
     left_more _ _ _ _ _ _ (left_as _ _ _ _ _ next c.loop-index.invariant) c.tell_words_of.ensures
 
 pub returns : goal.returns
 returns c =
-    let end = words_end (map (λ w. (w.0, w.1.now)) c.args.table.now) c.args.value.now c.loop-index.index (omega arith) in
+    let end = words_end (map (λ w. (w.0, w.1.now)) c.args.table.now) (map (λ w. (w.0, w.1.now)) c.args.references.now) c.args.value.now c.loop-index.index (omega arith) in
     left_end _ _ _ (left_as _ _ _ _ _ end c.loop-index.invariant)

@@ -9,10 +9,10 @@ loop-place-init c = left_start _ _
 
 pub loop-place-preserved : goal.loop-place-preserved
 loop-place-preserved c =
-    let next = bits_next 8 (text (codes ", ")) (word_at (map (λ w. (w.0, w.1.now)) c.args.table.now) c.args.number) c.args.byte true c.loop-place.place 8 (omega arith) in
+    let next = bits_next 8 (text (codes ", ")) (word_at (map (λ w. (w.0, w.1.now)) c.args.table.now) (map (λ w. (w.0, w.1.now)) c.args.references.now) c.args.number) c.args.byte true c.loop-place.place 8 (omega arith) in
     left_more _ _ _ _ _ _ (left_as _ _ _ _ _ next c.loop-place.invariant) c.tell_word_at.ensures
 
 pub returns : goal.returns
 returns c =
-    let end = bits_end 8 (text (codes ", ")) (word_at (map (λ w. (w.0, w.1.now)) c.args.table.now) c.args.number) c.args.byte true c.loop-place.place 8 (omega arith) in
+    let end = bits_end 8 (text (codes ", ")) (word_at (map (λ w. (w.0, w.1.now)) c.args.table.now) (map (λ w. (w.0, w.1.now)) c.args.references.now) c.args.number) c.args.byte true c.loop-place.place 8 (omega arith) in
     left_end _ _ _ (left_as _ _ _ _ _ end c.loop-place.invariant)

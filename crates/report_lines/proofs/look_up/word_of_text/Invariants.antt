@@ -1,6 +1,6 @@
 use Rattle.std.proofs.Common.{◌≡◌, length, map}
-use Rattle.value_words.specs.Words.{text_in}
-use Rattle.value_words.proofs.look_up.word_of_text.Given as goal
+use Rattle.report_lines.specs.Tables.{text_in}
+use Rattle.report_lines.proofs.look_up.word_of_text.Given as goal
 
 abbrev pub invariant-loop-table : goal.invariant-loop-table
 invariant-loop-table l = text_in (map (λ w. (w.0.now, w.1.now)) l.table) l.text ≡ text_in (map (λ w. (w.0.now, w.1.now)) l.initial.table) l.text
