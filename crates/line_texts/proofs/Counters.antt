@@ -8,11 +8,11 @@ use Rattle.line_texts.specs.LineTexts.{SameCounters}
 use Rattle.line_texts.proofs.Fronts.{behind, number, first_same, decimal_first}
 
 -- what follows the first counter
-abbrev behind_first : Shown → List ℕ → List ℕ
+abbrev pub behind_first : Shown → List ℕ → List ℕ
 behind_first app rest =
     44 ∷ (decimal app.last_online ++ 44 ∷ (decimal app.count ++ 44 ∷ (decimal app.sum ++ 44 ∷ (decimal app.tries ++ 44 ∷ (decimal app.flags ++ (second_text app.sum_two ++ rest))))))
 
-shown_flat : (app : Shown) (rest : List ℕ) → shown_text app ++ rest ≡ 32 ∷ (decimal app.counter ++ behind_first app rest)
+pub shown_flat : (app : Shown) (rest : List ℕ) → shown_text app ++ rest ≡ 32 ∷ (decimal app.counter ++ behind_first app rest)
 unfolding shown_text
 shown_flat app rest = simp append_assoc
 

@@ -122,7 +122,7 @@ pub number : (m n c d : ℕ) (r s : List ℕ) → decimal m ++ c ∷ r ≡ decim
 number m n c d r s e hc hd = word 48 (decimal m) (decimal n) c d r s e (decimal_high m) (decimal_high n) hc hd
 
 -- an amount, which may begin with a minus sign
-amount_high : (z : ℤ) → AtLeast 45 (signed_decimal z)
+pub amount_high : (z : ℤ) → AtLeast 45 (signed_decimal z)
 amount_high (pos n) = All-weaker (λ (c : ℕ). 48 ≤ c) (λ (c : ℕ). 45 ≤ c) (λ c h. omega arith) (decimal n) (decimal_high n)
 amount_high (negsuc n) =
     high_cons 45 45 (decimal (suc n)) (omega arith)
@@ -209,7 +209,7 @@ bytes_of_tag tag false true p q =
 bytes_of_tag tag false false p q =
     rw (p, q) (byte_cons (tag / 65536 % 256) (tag / 256 % 256 ∷ tag % 256 ∷ []) (omega arith) (byte_cons (tag / 256 % 256) (tag % 256 ∷ []) (omega arith) (one_byte (tag % 256) (omega arith))))
 
-tag_is_bytes : (tag : ℕ) → AreBytes (tag_bytes tag)
+pub tag_is_bytes : (tag : ℕ) → AreBytes (tag_bytes tag)
 tag_is_bytes tag = bytes_of_tag tag (nat_lt tag 256) (nat_lt tag 65536) refl refl
 
 pub tag : (m n c d : ℕ) (r s : List ℕ) → encode_lower (tag_bytes m) ++ c ∷ r ≡ encode_lower (tag_bytes n) ++ d ∷ s → c < 48 → d < 48 → (tag_bytes m ≡ tag_bytes n) × (c ∷ r ≡ d ∷ s)
@@ -230,14 +230,14 @@ two_are_bytes n = are_bytes 2 n
 pub two : (m n c d : ℕ) (r s : List ℕ) → encode_lower (two_bytes m) ++ c ∷ r ≡ encode_lower (two_bytes n) ++ d ∷ s → c < 48 → d < 48 → (two_bytes m ≡ two_bytes n) × (c ∷ r ≡ d ∷ s)
 two m n c d r s e hc hd = hex (two_bytes m) (two_bytes n) c d r s e (two_are_bytes m) (two_are_bytes n) hc hd
 
-five_are_bytes : (n : ℕ) → AreBytes (tvr_bytes n)
+pub five_are_bytes : (n : ℕ) → AreBytes (tvr_bytes n)
 five_are_bytes n = are_bytes 5 n
 
 pub five : (m n c d : ℕ) (r s : List ℕ) → encode_lower (tvr_bytes m) ++ c ∷ r ≡ encode_lower (tvr_bytes n) ++ d ∷ s → c < 48 → d < 48 → (tvr_bytes m ≡ tvr_bytes n) × (c ∷ r ≡ d ∷ s)
 five m n c d r s e hc hd = hex (tvr_bytes m) (tvr_bytes n) c d r s e (five_are_bytes m) (five_are_bytes n) hc hd
 
 -- the digits of an account number
-digits_high : (ds : List ℕ) → AtLeast 48 (digits_text ds)
+pub digits_high : (ds : List ℕ) → AtLeast 48 (digits_text ds)
 digits_high [] = All-nil (λ (x : ℕ). 48 ≤ x)
 digits_high (d ∷ ds) = high_cons 48 (d + 48) (digits_text ds) (omega arith) (digits_high ds)
 

@@ -5,3 +5,7 @@ mod Parts
 mod Flat
 mod Marks
 mod Lines
+mod Splitting
+mod EndingsBack
+mod OneLine
+mod LinesBack

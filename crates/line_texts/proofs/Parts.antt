@@ -16,7 +16,7 @@ use Rattle.line_texts.proofs.Fronts.{behind, hex, two, five, dash, no_dash, no_b
 use Rattle.line_texts.proofs.Endings.{ending_front}
 
 -- fronts of one length
-long_front : (xs ys r s : List ℕ) → xs ++ r ≡ ys ++ s → length xs ≡ length ys → (xs ≡ ys) × (r ≡ s)
+pub long_front : (xs ys r s : List ℕ) → xs ++ r ≡ ys ++ s → length xs ≡ length ys → (xs ≡ ys) × (r ≡ s)
 long_front [] [] r s e h = (refl, e)
 long_front [] (y ∷ ys) r s e h = absurd (omega arith)
 long_front (x ∷ xs) [] r s e h = absurd (omega arith)
@@ -68,6 +68,10 @@ unfolding joined
 results_are_bytes [] all = no_bytes
 results_are_bytes (result ∷ results) all =
     bytes_append result (joined results) (All-head IsResult result results all).bytes (results_are_bytes results (All-tail IsResult result results all))
+
+pub scripts_are_bytes : (results : List (List ℕ)) → All IsResult results → AreBytes (flat_map (λ result. result) results)
+unfolding joined
+scripts_are_bytes results all = results_are_bytes results all
 
 results_same : (xs ys : List (List ℕ)) → joined xs ≡ joined ys → All IsResult xs → All IsResult ys → xs ≡ ys
 unfolding joined
