@@ -4,6 +4,7 @@ The toolchain keeps a crate, and all crates below it, to one call at a time. So 
 repository with second names of the files of those crates and of what was made of the lower ones. What the proof leaves goes
 back to the crate, also from the room of a call that was killed, and so the next call goes on where this one ended.
 """
+import math
 import os
 import re
 import shutil
@@ -24,8 +25,9 @@ PREFIX = "proving-"
 LEFT = ("rlib", "incremental")
 # Bytes that a proof takes: at least, and for each line of the crates below and of the crate itself.
 LEAST, BELOW, OWN = 1_400_000_000, 80_000, 350_000
-# A proof by several processors takes this share more memory for each further one, and doesn't gain by more than so many.
-FURTHER, MOST_JOBS = 0.6, 4
+# A proof by several processors takes this share more memory for each further one, keeps such a share of it busy, and doesn't gain by
+# more than so many.
+FURTHER, BUSY, MOST_JOBS = 0.6, 0.5, 4
 # Where a gate's seconds of the processor stand for the proof of each crate, a row for each.
 COUNTED, ROW = Path(seals.ROOT) / "docs" / "inside" / "gate.md", re.compile(r"^\| `(\w+)` \| (\d+) \|", re.MULTILINE)
 # Lines of a crate without a row that are proved in a second of one processor, roughly.
@@ -159,10 +161,12 @@ class Prover:
     def jobs_for(self, crate, ready):
         """How many processors a crate's proof gets where so many wait, itself among them: 0 where one or memory is wanting.
 
-        It gets what no other crate waits for, as far as memory is free, or the share that it and the row of those that wait for it
-        have of all that is left, where that is more; one crate may always run.
+        It gets what no other crate waits for, as far as memory is free. The crate with the longest row of those that wait for it
+        gets the share that this row has of all that is left, where that is more: a second processor makes a proof faster by a
+        third, and not by half. One crate may always run.
         """
-        idle = len(os.sched_getaffinity(0)) - sum(self.jobs[one] for one in self.running.values())
+        busy = sum(1 + BUSY * (self.jobs[one] - 1) for one in self.running.values())
+        idle = math.ceil(len(os.sched_getaffinity(0)) - busy)
         still = sum(max(0, self.needed(one) - taken_memory(self.sessions.get(one, -1))) for one in self.running.values())
         room = free_memory() - still
         needs = self.plan.memory(crate)
@@ -171,9 +175,12 @@ class Prover:
         return max(1, min(MOST_JOBS, max(idle // ready, self.share(crate)), 1 + int((room / needs - 1) / FURTHER)))
 
     def share(self, crate):
-        """The processors that a crate would have if each row of crates that wait for one another got them by its length."""
-        left = sum(self.plan.seconds[one] for one in [*self.todo, *self.running.values()])
-        return round(self.plan.row[crate] * len(os.sched_getaffinity(0)) / max(1, left))
+        """The processors that the crate with the longest row would have if rows of crates that wait for one another got them by
+        their length, and 0 for each other crate."""
+        left = [*self.todo, *self.running.values()]
+        if self.plan.row[crate] < max(self.plan.row[one] for one in left):
+            return 0
+        return round(self.plan.row[crate] * len(os.sched_getaffinity(0)) / max(1, sum(self.plan.seconds[one] for one in left)))
 
     def prove(self, crate):
         """Proves a crate in a room of its own; gives the status and what the toolchain wrote."""
