@@ -39,7 +39,9 @@ OF_RESPONSES = {"GEN-1": "Y1 Z1", "ONL-3": "Y3 Z3", "HOST-9": "00", "HOST-5": "0
 OF_COMMANDS = {
     "CARD-7": "00a4", "CARD-8": "00b2", "CARD-9": "80a8", "CARD-10": "0020", "CARD-11": "80ca", ("CARD-12", "CARD-13"): "80ae",
     "CARD-14": "0082", "CARD-15": "8416 8418 841e", "CARD-16": "8424", "CARD-17": "04da", "Book 3, 6.5.6": "0084", "Book 3, 6.5.9": "0088",
-    "ISO/IEC 7816-4": "00d6 00dc",
+    "ISO/IEC 7816-4": "00b0 00c0 00d6 00dc 04dc",
+    # The same with secure messaging, which this card does without.
+    "Book 3, 6.5.1": "8c1e", "Book 3, 6.5.3": "8c16", "Book 3, 6.5.10": "8c24",
 }
 
 # Status words, and those of one command behind its instruction.
@@ -61,11 +63,11 @@ OF_CAUSES = {
 }
 # No rule of cardholder verification was performed, with this result.
 OF_NO_RULE = {("CVM-1", "CVM-2"): "00", "CVM-12": "01"}
-# What a card chooses, and why an issuer replies as it does.
+# What a wrong PIN leaves, what a card chooses, and why an issuer replies as it does.
 OF_PARTIES = {
-    "CARD-20": "FIRST_KIND", "CARD-21": "SECOND_KIND", "HOST-1": "FAULTY", "HOST-2": "REPEATED", "HOST-3": "NO_ACCOUNT", "HOST-4": "WRONG_CRYPTOGRAM",
-    "HOST-5": "NOT_ALLOWED", "HOST-6": "EXPIRED", "HOST-7": "WRONG_PIN", "HOST-8": "ABOVE_BALANCE", "HOST-9": "HELD", "HOST-10": "PRESENTED",
-    "HOST-11": "REVERSED"}
+    "CARD-10": "TRIES_LEFT", "CARD-20": "FIRST_KIND", "CARD-21": "SECOND_KIND", "HOST-3": "NO_ACCOUNT", ("HOST-2", "HOST-4"): "WRONG_CRYPTOGRAM",
+    "HOST-5": "NOT_ALLOWED", "HOST-6": "EXPIRED", "HOST-7": "WRONG_PIN", "HOST-8": "ABOVE_BALANCE", "HOST-9": "HELD",
+    ("HOST-10", "HOST-11"): "SETTLED"}
 # Why a terminal asks for a kind of cryptogram: which codes decide, or where it may.
 OF_REASONS = {"TAA-2": "denied", "TAA-3": "online default offline none", ("TAA-2", "TAA-3"): "undecided", "ONL-3": "unable", "ONL-8": "issuer"}
 

@@ -1,14 +1,19 @@
 """The programs of terminal, card and host of a scenario with one lane, tied to one another line by line.
 
 What they say is written as the lines of the scenario's report. The link between terminal and host, and how often a message is
-settled, are of what ties them; a card is pulled out by its own lines.
+settled, are of what ties them; a card is pulled out by its own lines. The terminal is asked besides why its last question is of
+its kind, behind all that it asks: it has to tell what the model's terminal tells that gets the same replies.
 """
 from contextlib import ExitStack
 
 from yollenka.faults import Fault
+from yollenka.lab.host_dialect import as_object
 from yollenka.lab.host_scenario import NOWHERE
 from yollenka.lab.live import pull_line
-from yollenka.lines import UNREAD, begin, card_document, end, host_document, terminal_document
+from yollenka.lines import begin, card_document, end, host_document, terminal_document
+from yollenka.model.document import scenario_of
+from yollenka.model.terminal import Terminal
+from yollenka.scenarios import document
 
 CANNED = "canned"
 
@@ -34,6 +39,32 @@ class TiedCard:
         return told
 
 
+class Beside:
+    """The model's terminal of a scenario with one lane, which gets the replies that the program gets."""
+
+    def __init__(self, scenario):
+        self.settings, self.log = scenario_of(document(scenario), "replay")["lane"][0], []
+        self.terminal = self.course = self.asked = None
+
+    def begin(self, number):
+        """A purchase begins, counted from 1."""
+        self.terminal = Terminal(self.settings, self.settings["purchase"][number - 1], self.log)
+        self.course = self.terminal.run()
+        self.asked = next(self.course)
+
+    def take(self, line):
+        """Takes a reply as its line has it; of those that were approved the log is kept."""
+        said = line.rpartition("< ")[2]
+        reply = None if said in ("gone", "none") else bytes.fromhex(said.replace("-", ""))
+        if line.startswith("host "):
+            reply = as_object(self.asked[1], reply, self.settings["dialect"] == "iso")
+        try:
+            self.asked = self.course.send(reply)
+        except StopIteration:
+            if self.terminal.ending.startswith("approved"):
+                self.log.append((self.terminal.pan, self.terminal.purchase["amount"]))
+
+
 class Tied:
     """The three programs of a scenario with one lane. `report` has the lines so far."""
 
@@ -46,6 +77,7 @@ class Tied:
         self.applications = {card["name"]: [row["name"] for row in card.get("app", [])] for card in scenario["card"]}
         self.host = self.started(stack, "host_at_lines", [], host_document(scenario))
         self.terminal = self.started(stack, "terminal_at_reader", [], terminal_document(scenario, 0, keep=["dialect"]))
+        self.beside = Beside(scenario)
 
     def started(self, stack, name, words, text):
         """The lines of a program on its document; it is ended with the stack."""
@@ -56,6 +88,12 @@ class Tied:
     def put(self, line):
         """Adds a line to the report."""
         self.report.append(line)
+
+    def ask_why(self):
+        """Asks the terminal why its last question is of its kind."""
+        told, wanted = self.terminal.ask("why"), self.beside.terminal.why()
+        if told != wanted:
+            raise Fault(f"the terminal says {told!r} to `why`, and the model {wanted!r}")
 
     def sent(self, message):
         """The host's reply to a message, as `< H`."""
@@ -84,17 +122,21 @@ class Tied:
         """A purchase, whose first ask this line is."""
         card = self.cards[purchase["card"]]
         self.put(f"L0 power {card.name} {card.power(purchase.get('tear'))}")
+        self.beside.begin(number)
         while not line.startswith("end "):
-            if line.startswith(UNREAD):
-                line = self.terminal.hear()
-            else:
-                line = self.terminal.ask(self.asked(line, card, purchase.get("link", "ok")))
+            self.ask_why()
+            reply = self.asked(line, card, purchase.get("link", "ok"))
+            self.beside.take(reply)
+            self.terminal.say(reply)
+            line = self.terminal.hear_ask()
+        self.ask_why()
         self.put(f"L0 end {number} {line[4:]}")
 
     def settle(self):
         """The settlement: each message is sent so often, and the terminal gets the first reply."""
         line, count = self.terminal.ask("settle"), 0
         while line.startswith("settle > "):
+            self.ask_why()
             replies = [self.sent(line[9:]) for _ in range(self.copies)]
             for reply in replies:
                 self.report += [f"S0 > {line[9:]}", f"S0 {reply}"]

@@ -9,8 +9,11 @@ from .selection import (
 
 AAC, TC, ARQC = 0x00, 0x40, 0x80
 RANK = [AAC, ARQC, TC]
+WORDS = {AAC: "aac", TC: "tc", ARQC: "arqc"}
 ATTENDED, ONLINE_ONLY, SELECTS_AT_RANDOM, OFFLINE_ONLY = (21, 22, 23), (21, 24), (22, 25), (23, 26)
 NO_BIT, ALL_BITS = bytes(5), b"\xff" * 5
+# The issuer's action codes: each one's object, and what stands for an absent one.
+ISSUERS = {"denial": (0x9F0E, NO_BIT), "online": (0x9F0F, ALL_BITS), "default": (0x9F0D, ALL_BITS)}
 # Methods of cardholder verification; of those that are known, an enciphered PIN is never supported.
 FAIL, PLAIN_PIN, ONLINE_PIN, PLAIN_PIN_AND_SIGNATURE, SIGNATURE, NO_METHOD = 0x00, 0x01, 0x02, 0x03, 0x1E, 0x1F
 KNOWN = (*range(6), SIGNATURE, NO_METHOD)
@@ -26,6 +29,8 @@ class Terminal:
         self.held = self.code = self.cryptogram = self.capture = self.pin = None
         self.asked = self.replied = self.sent_results = None
         self.scripts, self.heard = [], False
+        # The questions about a cryptogram that were decided on, each with what its kind rests on.
+        self.questions = []
         self.objects = {
             0x9F02: in_digits(purchase["amount"], 6), 0x9F03: in_digits(purchase["other"], 6),
             0x9F1A: settings["country"], 0x5F2A: purchase["currency"], 0x9A: purchase["date"],
@@ -207,19 +212,30 @@ class Terminal:
         """Whether a mark stands in an action code of the card or of the terminal."""
         return any(mark & (card | its) for mark, card, its in zip(self.results, self.held.get(tag, absent), self.row[own]))
 
+    def analysed(self, which, kind, *names):
+        """Keeps a question that action analysis has decided on, with these of the action codes."""
+        issuer = [f"issuer_{name} {self.held.get(*ISSUERS[name]).hex()}" for name in names]
+        own = [f"terminal_{name} {self.row[name].hex()}" for name in names]
+        basis = f"type {self.settings['kind']} tvr {self.results.hex()}"
+        self.questions.append(" ".join((f"why {which} kind {WORDS[kind]}", basis, *issuer, *own)))
+
+    def why(self):
+        """What a terminal at lines answers to `why`."""
+        return self.questions[-1] if self.questions else "?"
+
     def wanted(self):
         """The kind of cryptogram that is asked for first."""
-        if self.meets(0x9F0E, NO_BIT, "denial"):
+        if self.meets(*ISSUERS["denial"], "denial"):
             return AAC
         if self.settings["kind"] in ONLINE_ONLY:
             return ARQC
         if self.settings["kind"] in SELECTS_AT_RANDOM:
-            return ARQC if self.meets(0x9F0F, ALL_BITS, "online") else TC
-        return AAC if self.meets(0x9F0D, ALL_BITS, "default") else TC
+            return ARQC if self.meets(*ISSUERS["online"], "online") else TC
+        return AAC if self.meets(*ISSUERS["default"], "default") else TC
 
     def unable(self):
         """The kind that is asked for where the terminal can't go online."""
-        return AAC if self.settings["kind"] in ONLINE_ONLY or self.meets(0x9F0D, ALL_BITS, "default") else TC
+        return AAC if self.settings["kind"] in ONLINE_ONLY or self.meets(*ISSUERS["default"], "default") else TC
 
     def generate(self, step, asked, tag):
         """GENERATE AC; the kind that is answered."""
@@ -238,6 +254,7 @@ class Terminal:
 
     def generate_first(self, asked):
         """The first cryptogram, after which the card has managed its risk; an offline decision sets the response code."""
+        self.analysed("first", asked, *ISSUERS)
         codes = {TC: b"Y1", AAC: b"Z1", ARQC: None}
         self.code = codes[asked]
         kind = yield from self.generate("first", asked, 0x8C)
@@ -253,15 +270,17 @@ class Terminal:
             reply = reply_in((yield "online", self.request()))
         if reply is None:
             kind = self.unable()
+            self.analysed("second", kind, "default")
             self.code = b"Y3" if kind == TC else b"Z3"
             return (yield from self.generate("second", kind, 0x8D))
         self.code, authentication, templates = reply
-        self.replied = True
+        asked, self.replied = TC if self.code == b"00" else AAC, True
+        self.questions.append(f"why second kind {WORDS[asked]} code {self.code.hex()}")
         if authentication is not None:
             self.objects[0x91] = authentication
             yield from self.authenticate(authentication)
         yield from self.run_scripts(0x71, templates, 0x20)
-        kind = yield from self.generate("second", TC if self.code == b"00" else AAC, 0x8D)
+        kind = yield from self.generate("second", asked, 0x8D)
         yield from self.run_scripts(0x72, templates, 0x10)
         return kind
 
