@@ -15,7 +15,7 @@ def answers_of(program, text, lines):
 
 def lines_of(answers):
     """Answers of one or more lines as the lines that are written."""
-    return "\n".join(answers).split("\n")
+    return [line for answer in answers for line in answer.split("\n")]
 
 
 def first_differing(answers, wanted):
