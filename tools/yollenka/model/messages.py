@@ -59,7 +59,8 @@ class Message:
         if faults:
             raise Unreadable(f"coding {min(faults)}")
         if not outer or outer[0].tag not in ORDER or len(outer) > 1:
-            raise Unreadable(f"coding {outer[1].start if outer and outer[0].tag in ORDER else 0}")
+            wrong = outer[1:2] if outer and outer[0].tag in ORDER else outer[:1]
+            raise Unreadable(f"coding {wrong[0].start if wrong else 0}")
         self.kind, self.data = outer[0].tag, data
         self.fields = fields_in(self.kind, held, ORDER[self.kind])
         self.pan = account_number(self.fields[PAN])
