@@ -4,8 +4,8 @@ use Rattle.line_talk.proofs.Talking.{weaker}
 use Rattle.line_talk.specs.Talk.{EndsDocument, HasServed, IsLacking, NotAsked, Served, Sides, TalkEnds, WritesLast, other_line}
 use Rattle.line_talk.specs.declared.status.Status.{Status}
 use Rattle.line_talk.specs.declared.status.Status.TheVariants.{Unserved}
-use Rattle.scenario.specs.declared.plan.CardKind.{CardKind}
-use Rattle.scenario.specs.declared.plan.NamedCard.{NamedCard}
+use Rattle.scenario_plan.specs.declared.plan.CardKind.{CardKind}
+use Rattle.scenario_plan.specs.declared.plan.NamedCard.{NamedCard}
 use Rattle.card_at_reader.specs.Desk.{card_opening}
 use Rattle.card_at_reader.specs.Document.{wanted_kind, ReadsCards}
 use Rattle.card_at_reader.specs.Top.{IsServed, IsTalkOf, card_name_in, card_programme, programme_of}

@@ -3,12 +3,13 @@ use Rattle.std.specs.Prelude.{ℕ, Bool, true, if◌then◌else◌, List, [], �
 use Rattle.std.specs.Str.{IsUtf8, bytes_eq}
 use Rattle.toml.specs.Data.{Members}
 use Rattle.toml.specs.Parse.{parse_document}
-use Rattle.scenario.specs.Cards.{CardData, cards_at}
+use Rattle.scenario.specs.Cards.{cards_at}
+use Rattle.scenario_plan.specs.Cards.{CardData}
 use Rattle.scenario.specs.Issuer.{issuer_at}
 use Rattle.scenario.specs.Scenario.{top_keys}
-use Rattle.scenario.specs.Seen.{seen_cards}
-use Rattle.scenario.specs.declared.plan.CardKind.{CardKind}
-use Rattle.scenario.specs.declared.plan.NamedCard.{NamedCard}
+use Rattle.scenario_plan.specs.SeenCards.{seen_cards}
+use Rattle.scenario_plan.specs.declared.plan.CardKind.{CardKind}
+use Rattle.scenario_plan.specs.declared.plan.NamedCard.{NamedCard}
 use Rattle.scenario_fields.specs.Fault.{◌>>=◌, Gives}
 use Rattle.scenario_fields.specs.Fields.{only}
 use Rattle.scenario_fields.specs.TablePaths.{at_top}

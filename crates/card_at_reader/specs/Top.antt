@@ -2,9 +2,9 @@
 use Rattle.std.specs.Prelude.{◌≡◌, ℕ, List, [], ◌∷◌, map, Option, Some, None, Ok, Err}
 use Rattle.line_talk.specs.Talk.{Programme, no_programme}
 use Rattle.line_talk.specs.Turns.{Turn}
-use Rattle.scenario.specs.declared.plan.CardKind.{CardKind}
-use Rattle.scenario.specs.declared.plan.CardKind.TheVariants.{App, Canned}
-use Rattle.scenario.specs.declared.plan.NamedCard.{NamedCard}
+use Rattle.scenario_plan.specs.declared.plan.CardKind.{CardKind}
+use Rattle.scenario_plan.specs.declared.plan.CardKind.TheVariants.{App, Canned}
+use Rattle.scenario_plan.specs.declared.plan.NamedCard.{NamedCard}
 use Rattle.scenario_fields.specs.Line.{refused_line}
 use Rattle.scenario_fields.specs.declared.fault.ScenarioFault.{ScenarioFault}
 use Rattle.card_at_reader.specs.Canned.{IsCannedTalk}

@@ -1,7 +1,7 @@
 //! The card of a document: a scenario's, of which the issuer's keys and the cards are read.
 ghost use Rattle.std.specs.Prelude.{◌≡◌, option_map};
 ghost use Rattle.toml.specs.View.{table_view};
-ghost use Rattle.scenario.specs.Seen.{seen_cards};
+ghost use Rattle.scenario_plan.specs.SeenCards.{seen_cards};
 ghost use Rattle.scenario.specs.Scenario.{top_keys};
 ghost use Rattle.scenario_fields.specs.Fault.{Gives};
 ghost use Rattle.scenario_fields.specs.Fields.{only};
@@ -12,8 +12,8 @@ ghost use Rattle.std.specs.Result.{result_map_both};
 
 use scenario::card::cards_at;
 use scenario::issuer::issuer_at;
-use scenario::{CardKind, NamedCard};
 use scenario_fields::{Fields, ScenarioFault, TablePlace};
+use scenario_plan::{CardKind, NamedCard};
 use std::alloc::Global;
 use toml::Table;
 

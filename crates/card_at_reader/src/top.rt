@@ -11,7 +11,7 @@ use crate::document::{kind_of, read_cards};
 use card_files::Image;
 use emv_ports::{Pages, ReadFault, Sink, Source};
 use line_talk::{Preamble, Status, answer_other, converse, read_preamble, refuse};
-use scenario::CardKind;
+use scenario_plan::CardKind;
 use std::alloc::Global;
 
 /// Answers the lines for a card that has decided nothing yet.

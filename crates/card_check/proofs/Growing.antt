@@ -4,9 +4,9 @@ use Rattle.std.proofs.lemmas.List.{drop_more, length-map}
 use Rattle.std.proofs.lemmas.Option.{slice_get-map, slice_get_read}
 use Rattle.card_check.specs.Verdicts.{verdict_line_text, verdict_line_with, lines_text, lane_text, lanes_text}
 use Rattle.emv_dict.specs.Views.{SettingsData}
-use Rattle.scenario.specs.Cards.{CardData}
-use Rattle.scenario.specs.Seen.{seen_card, seen_cards}
-use Rattle.scenario.specs.declared.plan.NamedCard.{NamedCard}
+use Rattle.scenario_plan.specs.Cards.{CardData}
+use Rattle.scenario_plan.specs.SeenCards.{seen_card, seen_cards}
+use Rattle.scenario_plan.specs.declared.plan.NamedCard.{NamedCard}
 use Rattle.scenario_lanes.specs.Plan.{LaneData, HasCards}
 use Rattle.scenario_lanes.specs.declared.plan.Planned.{Planned}
 

@@ -4,7 +4,7 @@ use Rattle.std.specs.Io.KnownBytes.{Appends}
 use Rattle.card_check.specs.Verdicts.{verdicts_text}
 use Rattle.emv_ports.specs.Growth.{AppendsFront}
 use Rattle.emv_ports.specs.Reading.{ReadsUpTo}
-use Rattle.scenario.specs.Plan.{ScenarioData}
+use Rattle.scenario_plan.specs.Plan.{ScenarioData}
 use Rattle.scenario.specs.Scenario.{ReadsScenario}
 use Rattle.scenario.specs.declared.read.TheConstants.{MOST_BYTES}
 use Rattle.scenario_fields.specs.Line.{refused_line}

@@ -10,8 +10,8 @@ use Rattle.emv_dict.specs.Views.{SettingsData}
 use Rattle.emv_dict.specs.declared.ending.Cause.{Cause}
 use Rattle.report_text.specs.Pieces.{newline}
 use Rattle.report_text.specs.Words.{cause_text}
-use Rattle.scenario.specs.Cards.{CardData}
-use Rattle.scenario.specs.Plan.{ScenarioData}
+use Rattle.scenario_plan.specs.Cards.{CardData}
+use Rattle.scenario_plan.specs.Plan.{ScenarioData}
 use Rattle.scenario_lanes.specs.Plan.{LaneData}
 use Rattle.scenario_lanes.specs.declared.plan.Planned.{Planned}
 use Rattle.terminal_state.specs.Terminal.{Outset}

@@ -3,7 +3,7 @@ ghost use Rattle.std.specs.Prelude.{◌≡◌, ◌++◌, length, IfOk, OnOk};
 ghost use Rattle.card_check.specs.Verdicts as spec;
 ghost use Rattle.card_check.specs.Judged.{card_fault, judged_outset};
 ghost use Rattle.card_files.specs.Files.{opening_of};
-ghost use Rattle.scenario.specs.Seen.{seen_card, seen_cards};
+ghost use Rattle.scenario_plan.specs.SeenCards.{seen_card, seen_cards};
 ghost use Rattle.scenario_lanes.specs.Plan.{HasCards};
 ghost use Rattle.std.specs.List.{All};
 
@@ -13,8 +13,8 @@ use card_files::Image;
 use card_state::CardState;
 use emv_dict::{Cause, Ending, Purchase, Settings, Step};
 use report_text::{Line, Text, write_line};
-use scenario::{CardKind, NamedCard, Scenario};
 use scenario_lanes::{Lane, Planned};
+use scenario_plan::{CardKind, NamedCard, Scenario};
 use std::alloc::{AllocError, Global};
 
 /// How many bytes of a line of `read` stand before the step: `read terminated `.
@@ -93,7 +93,7 @@ fn push_judged(
 }
 
 /// Appends the verdict on a new card.
-#[tactic(auto, unfolding(scenario::specs::Seen::seen_card))]
+#[tactic(auto, unfolding(scenario_plan::specs::SeenCards::seen_card))]
 fn push_verdict(
     alloc: Global,
     card: &NamedCard,
@@ -110,7 +110,7 @@ fn push_verdict(
 }
 
 /// Appends the line of a purchase with this card.
-#[tactic(auto, unfolding(scenario::specs::Seen::seen_card))]
+#[tactic(auto, unfolding(scenario_plan::specs::SeenCards::seen_card))]
 fn push_line(
     alloc: Global,
     card: &NamedCard,

@@ -3,7 +3,8 @@ use crate::facts::agree;
 use card_files::Image;
 use emv_ports::{Tear, TearAt};
 use generated::generated;
-use scenario::{CardKind, Lane, Link, Planned, Scenario};
+use scenario_lanes::{Lane, Link, Planned};
+use scenario_plan::{CardKind, Scenario};
 use std::process::Abort;
 use std::test::Fail;
 

@@ -15,7 +15,7 @@ use Rattle.emv_top.specs.declared.status.Status.{Status}
 use Rattle.emv_top.specs.declared.status.Status.TheVariants.{Done, Refused, Usage, ReadFault, WriteFault, OutOfMemory}
 use Rattle.emv_top.specs.declared.words.Task.{Task}
 use Rattle.kernel.specs.Tally.{Counts}
-use Rattle.scenario.specs.Plan.{ScenarioData}
+use Rattle.scenario_plan.specs.Plan.{ScenarioData}
 use Rattle.scenario.specs.Scenario.{ReadsScenario, scenario_of_document}
 use Rattle.scenario.specs.declared.read.TheConstants.{MOST_BYTES}
 use Rattle.scenario_fields.specs.Fault.{◌>>=◌, Gives}

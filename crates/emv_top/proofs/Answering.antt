@@ -19,7 +19,7 @@ use Rattle.emv_top.proofs.ReadTold.{read_named}
 use Rattle.emv_top.proofs.Settled.{run_settled}
 use Rattle.kernel.specs.Laws.{ReadingCapturesNothing}
 use Rattle.kernel.specs.Tally.{Counts}
-use Rattle.scenario.specs.Plan.{ScenarioData, IsScenario}
+use Rattle.scenario_plan.specs.Plan.{ScenarioData, IsScenario}
 use Rattle.scenario_fields.specs.Line.{refused_line}
 use Rattle.scenario_fields.specs.declared.fault.ScenarioFault.{ScenarioFault}
 use Rattle.txn_replay.specs.Asking.{WholeRunsAsk}

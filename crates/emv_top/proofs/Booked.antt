@@ -10,7 +10,7 @@ use Rattle.host_ledger.proofs.Keys.{own_pan, same_pan}
 use Rattle.issuer_host.specs.Account.{AccountData}
 use Rattle.issuer_host.specs.Balance.{account_with_pan, taken_in_all}
 use Rattle.issuer_host.specs.History.{books_of}
-use Rattle.scenario.specs.Plan.{ScenarioData, HaveOwnPans}
+use Rattle.scenario_plan.specs.Plan.{ScenarioData, HaveOwnPans}
 use Rattle.txn_replay.specs.World.{World}
 use Rattle.emv_top.specs.Generating.{booked, capped_sum, paid}
 

@@ -14,7 +14,7 @@ use Rattle.issuer_host.specs.Account.{AccountData}
 use Rattle.report_text.specs.Text.{line_text}
 use Rattle.report_text.specs.declared.line.Line.{Line}
 use Rattle.report_text.specs.declared.line.Line.TheVariants.{Done}
-use Rattle.scenario.specs.Plan.{ScenarioData}
+use Rattle.scenario_plan.specs.Plan.{ScenarioData}
 use Rattle.txn_replay.specs.Run.{account_lines, ended_count, closing}
 use Rattle.txn_replay.specs.World.{World}
 

@@ -12,9 +12,8 @@ use Rattle.emv_top.specs.Decided.{IsDecidedAt, AreDecided, RunsAreDecided}
 use Rattle.emv_top.proofs.Fates.{IsWhole, WasTold, EndedSo, Came, Behind, store_fate}
 use Rattle.kernel.specs.Reply.{Reply}
 use Rattle.report_text.specs.declared.line.Line.{Line}
-use Rattle.scenario.specs.CardRules.{IsKind}
-use Rattle.scenario.specs.Cards.{CardData}
-use Rattle.scenario.specs.Plan.{ScenarioData, IsScenario}
+use Rattle.scenario_plan.specs.Cards.{IsKind, CardData}
+use Rattle.scenario_plan.specs.Plan.{ScenarioData, IsScenario}
 use Rattle.scenario_lanes.specs.Plan.{LaneData}
 use Rattle.scenario_lanes.specs.declared.plan.Planned.{Planned}
 use Rattle.txn_replay.specs.Part.{Part, Moved}

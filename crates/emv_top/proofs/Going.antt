@@ -14,7 +14,7 @@ use Rattle.emv_top.specs.Texts.{text_of_lines}
 use Rattle.emv_top.proofs.Writing.{text_of_lines-append}
 use Rattle.report_text.specs.Told.{HasLineBytes}
 use Rattle.report_text.specs.declared.line.Line.{Line}
-use Rattle.scenario.specs.Plan.{ScenarioData}
+use Rattle.scenario_plan.specs.Plan.{ScenarioData}
 use Rattle.txn_replay.specs.Steps.{Step}
 use Rattle.txn_replay.specs.World.{World}
 use Rattle.txn_replay.specs.declared.event.Event.{Event}

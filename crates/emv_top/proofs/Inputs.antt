@@ -7,7 +7,7 @@ use Rattle.std.proofs.lemmas.Option.{same_Some}
 use Rattle.emv_top.specs.Input.{first_purchases, with_purchase, IsInput}
 use Rattle.emv_top.specs.declared.words.Task.{Task}
 use Rattle.emv_top.specs.declared.words.Task.TheVariants.{Read, Replay}
-use Rattle.scenario.specs.Plan.{ScenarioData, AreScenarioTables, IsScenario}
+use Rattle.scenario_plan.specs.Plan.{ScenarioData, AreScenarioTables, IsScenario}
 use Rattle.scenario.specs.Scenario.{ReadsScenario}
 use Rattle.scenario_fields.specs.Fault.{TellsFault}
 use Rattle.scenario_fields.specs.declared.fault.ScenarioFault.{ScenarioFault}

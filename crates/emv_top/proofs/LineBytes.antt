@@ -8,7 +8,7 @@ use Rattle.issuer_host.specs.History.{balance_after}
 use Rattle.report_text.specs.Told.{HasLineBytes, IsTold}
 use Rattle.report_text.specs.declared.line.Line.{Line}
 use Rattle.report_text.specs.declared.line.Line.TheVariants.{Done}
-use Rattle.scenario.specs.Plan.{ScenarioData}
+use Rattle.scenario_plan.specs.Plan.{ScenarioData}
 use Rattle.txn_replay.specs.Named.{AreNamed}
 use Rattle.txn_replay.specs.Run.{balance_line, account_lines, ended_count, closing}
 use Rattle.txn_replay.specs.World.{World}

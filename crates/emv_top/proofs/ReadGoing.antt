@@ -17,7 +17,7 @@ use Rattle.emv_top.proofs.Untorn.{none_ended_yet}
 use Rattle.report_text.specs.Told.{HasLineBytes}
 use Rattle.report_text.specs.declared.line.Line.{Line}
 use Rattle.report_text.specs.declared.line.Line.TheVariants.{End, EndLost}
-use Rattle.scenario.specs.Plan.{ScenarioData, IsScenario}
+use Rattle.scenario_plan.specs.Plan.{ScenarioData, IsScenario}
 use Rattle.txn_replay.specs.Reading.{ReadReached, turned, is_read, data_at, ending_at, read_lines, without_end, to_read}
 use Rattle.txn_replay.specs.Sound.{IsWorldSound, IsIdle}
 use Rattle.txn_replay.specs.World.{World, lane_at}

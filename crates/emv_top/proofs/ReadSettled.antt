@@ -15,7 +15,7 @@ use Rattle.object_lists.specs.CardRead.{ReadCard}
 use Rattle.report_text.specs.Told.{card_named, HasLineBytes, IsCardName}
 use Rattle.report_text.specs.declared.line.Line.{Line}
 use Rattle.report_text.specs.declared.line.Line.TheVariants as line
-use Rattle.scenario.specs.Plan.{ScenarioData, IsScenario}
+use Rattle.scenario_plan.specs.Plan.{ScenarioData, IsScenario}
 use Rattle.txn_replay.specs.Laws.{is_torn}
 use Rattle.txn_replay.specs.Named.{AreNamed}
 use Rattle.txn_replay.specs.Part.{Part, Moved}

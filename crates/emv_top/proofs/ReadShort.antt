@@ -9,7 +9,7 @@ use Rattle.kernel.specs.Dialogue.{dialogue}
 use Rattle.kernel.specs.Ended.{EndData, end_by, end_with}
 use Rattle.kernel.specs.Reply.{Reply, Deed, ToCard, ToHost, Over}
 use Rattle.report_text.specs.declared.line.Line.{Line}
-use Rattle.scenario.specs.Plan.{ScenarioData}
+use Rattle.scenario_plan.specs.Plan.{ScenarioData}
 use Rattle.terminal_state.specs.StepResults.{state_so_far, latest, sets_card}
 use Rattle.txn_replay.proofs.Lists.{at_set, get_or-map_const}
 use Rattle.txn_replay.specs.Part.{Part}

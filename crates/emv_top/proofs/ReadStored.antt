@@ -12,7 +12,7 @@ use Rattle.kernel.specs.Laws.{CapturesNothing, ReadingCapturesNothing}
 use Rattle.kernel.specs.Reply.{Reply, CardGone}
 use Rattle.object_lists.specs.CardRead.{ReadCard}
 use Rattle.report_text.specs.declared.line.Line.{Line}
-use Rattle.scenario.specs.Plan.{ScenarioData}
+use Rattle.scenario_plan.specs.Plan.{ScenarioData}
 use Rattle.txn_replay.specs.Counting.{lost_count}
 use Rattle.txn_replay.specs.Part.{Part, loses, lane_ended}
 use Rattle.txn_replay.specs.Payment.{Payment, outset_for, next_of}

@@ -11,7 +11,7 @@ use Rattle.object_lists.specs.CardRead.{ReadCard}
 use Rattle.report_text.specs.Told.{card_named, HasLineBytes, IsCardName, IsEndingTold}
 use Rattle.report_text.specs.declared.line.Line.{Line}
 use Rattle.report_text.specs.declared.line.Line.TheVariants.{End, EndLost, ReadOk, ReadEnded}
-use Rattle.scenario.specs.Plan.{ScenarioData, IsScenario}
+use Rattle.scenario_plan.specs.Plan.{ScenarioData, IsScenario}
 use Rattle.txn_replay.specs.Named.{AreNamed}
 use Rattle.txn_replay.specs.Reading.{ReadReached, start, turned, object_line, read_lines, without_end}
 use Rattle.txn_replay.specs.World.{World}

@@ -3,7 +3,7 @@ use Rattle.std.proofs.Common.{◌≡◌, ◌⊎◌, ℕ, zero, suc, ◌+◌, ◌
 use Rattle.emv_top.specs.RunsSoFar.{IsRunSoFar, RunWasStopped, Makes, IsThere, MakesNone, Replays, tail_at, all_lines}
 use Rattle.emv_top.proofs.Going.{more, halts}
 use Rattle.report_text.specs.declared.line.Line.{Line}
-use Rattle.scenario.specs.Plan.{ScenarioData}
+use Rattle.scenario_plan.specs.Plan.{ScenarioData}
 use Rattle.txn_replay.specs.Run.{RunPlace, Reached, all_over}
 use Rattle.txn_replay.specs.Sound.{IsWorldSound, IsIdle}
 use Rattle.txn_replay.specs.Steps.{Step}

@@ -7,8 +7,8 @@ use Rattle.card_pages.specs.Pages.{found_of}
 use Rattle.emv_top.specs.Answers.{AreSettled}
 use Rattle.emv_top.proofs.Uncut.{IsSettled, lane_card}
 use Rattle.report_text.specs.declared.line.Line.{Line}
-use Rattle.scenario.specs.Cards.{CardData}
-use Rattle.scenario.specs.Plan.{ScenarioData}
+use Rattle.scenario_plan.specs.Cards.{CardData}
+use Rattle.scenario_plan.specs.Plan.{ScenarioData}
 use Rattle.txn_replay.specs.Changes.{powered, exchanged}
 use Rattle.txn_replay.specs.Part.{Moved}
 use Rattle.txn_replay.specs.Payment.{Payment, next_of}

@@ -13,7 +13,7 @@ use Rattle.emv_top.specs.declared.words.Task.TheVariants.{Replay}
 use Rattle.generated.specs.Generated.{generated_of}
 use Rattle.kernel.specs.Tally.{Counts}
 use Rattle.report_text.specs.declared.line.Line.{Line}
-use Rattle.scenario.specs.Plan.{ScenarioData}
+use Rattle.scenario_plan.specs.Plan.{ScenarioData}
 use Rattle.txn_replay.specs.Counting.{counts}
 use Rattle.txn_replay.specs.Laws.{IsFair}
 use Rattle.txn_replay.specs.Seen.{WorldSeen, WorldStands}

@@ -17,8 +17,8 @@ use Rattle.emv_top.specs.declared.words.Task.TheVariants.{Read, Replay}
 use Rattle.kernel.specs.Tally.{Counts}
 use Rattle.report_text.specs.Told.{IsTold}
 use Rattle.report_text.specs.declared.line.Line.{Line}
-use Rattle.scenario.specs.Cards.{CardData}
-use Rattle.scenario.specs.Plan.{ScenarioData}
+use Rattle.scenario_plan.specs.Cards.{CardData}
+use Rattle.scenario_plan.specs.Plan.{ScenarioData}
 use Rattle.scenario_fields.specs.Line.{refused_line}
 use Rattle.scenario_fields.specs.declared.fault.ScenarioFault.{ScenarioFault}
 use Rattle.txn_replay.specs.Captured.{AreLostAsTold}

@@ -8,7 +8,7 @@ use Rattle.dialogue_laws.specs.WellFormed.{WellFormed}
 use Rattle.kernel.specs.Ended.{EndData}
 use Rattle.report_text.specs.Told.{IsTold}
 use Rattle.report_text.specs.declared.line.Line.{Line}
-use Rattle.scenario.specs.Plan.{ScenarioData, IsScenario}
+use Rattle.scenario_plan.specs.Plan.{ScenarioData, IsScenario}
 use Rattle.txn_replay.specs.Asking.{AreAsked}
 use Rattle.txn_replay.specs.Captured.{AreSent, AreLostAsTold}
 use Rattle.txn_replay.specs.Payment.{Payment, payment_in, dialect_of, durable_of, outset_for}

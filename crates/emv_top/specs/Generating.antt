@@ -15,7 +15,7 @@ use Rattle.issuer_host.specs.History.{balance_after}
 use Rattle.kernel.specs.Tally.{Counts}
 use Rattle.report_text.specs.Pieces.{newline}
 use Rattle.report_text.specs.declared.line.Line.{Line}
-use Rattle.scenario.specs.Plan.{ScenarioData, IsScenario}
+use Rattle.scenario_plan.specs.Plan.{ScenarioData, IsScenario}
 use Rattle.txn_replay.specs.Counting.{counts}
 use Rattle.txn_replay.specs.Run.{RunPlace, Reached}
 use Rattle.txn_replay.specs.World.{World}

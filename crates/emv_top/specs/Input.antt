@@ -2,7 +2,7 @@
 use Rattle.std.specs.Prelude.{◌≡◌, ℕ, List, [], ◌∷◌, codes, Result, Ok, Err}
 use Rattle.emv_top.specs.declared.words.Task.{Task}
 use Rattle.emv_top.specs.declared.words.Task.TheVariants.{Read, Replay}
-use Rattle.scenario.specs.Plan.{ScenarioData}
+use Rattle.scenario_plan.specs.Plan.{ScenarioData}
 use Rattle.scenario.specs.Scenario.{ReadsScenario}
 use Rattle.scenario_fields.specs.Fault.{◌>>=◌}
 use Rattle.scenario_fields.specs.declared.fault.ScenarioFault.{ScenarioFault}

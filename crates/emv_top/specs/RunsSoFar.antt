@@ -9,7 +9,7 @@ use Rattle.emv_top.specs.Texts.{text_of_lines}
 use Rattle.emv_top.specs.declared.stop.Stop.{Stop}
 use Rattle.report_text.specs.Told.{HasLineBytes}
 use Rattle.report_text.specs.declared.line.Line.{Line}
-use Rattle.scenario.specs.Plan.{ScenarioData, IsScenario}
+use Rattle.scenario_plan.specs.Plan.{ScenarioData, IsScenario}
 use Rattle.txn_replay.specs.Reading.{ReadReached, ReadRun, is_read, data_at, ending_at, read_lines, without_end}
 use Rattle.txn_replay.specs.Run.{RunPlace, Scheduled, Round, Settling, Auditing, Finished, Reached, Run, closing}
 use Rattle.txn_replay.specs.Steps.{Settlement, Check, settlements, checks, Step}

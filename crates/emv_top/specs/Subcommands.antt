@@ -11,7 +11,7 @@ use Rattle.emv_top.specs.declared.words.Task.{Task}
 use Rattle.emv_top.specs.declared.words.Subcommand.{Subcommand}
 use Rattle.emv_top.specs.declared.words.Subcommand.TheVariants.{Play, Generate, Check}
 use Rattle.kernel.specs.Tally.{Counts}
-use Rattle.scenario.specs.Plan.{ScenarioData}
+use Rattle.scenario_plan.specs.Plan.{ScenarioData}
 use Rattle.trace_check.specs.Document.{ReadsTrace, TraceData}
 
 -- what the call did: what the source had left before and behind it, what the sink held before and behind it, and the pages and

@@ -13,7 +13,7 @@ use crate::stop::Stop;
 use emv_ports::{Pages, Sink};
 use issuer_host::Account;
 use report_text::{Line, Text};
-use scenario::Scenario;
+use scenario_plan::Scenario;
 use txn_replay::World;
 
 /// An account's balance.

@@ -6,7 +6,7 @@ ghost use Rattle.emv_top.specs.Answers.{AreSettled, Completes};
 ghost use Rattle.emv_top.specs.Decided.{DecidedRun};
 ghost use Rattle.emv_top.specs.Generating.{Generates, IsGenerated, booked, capped_sum, paid, summary_of};
 ghost use Rattle.emv_top.specs.StatusCode.{Concludes};
-ghost use Rattle.scenario.specs.Plan.{IsScenario};
+ghost use Rattle.scenario_plan.specs.Plan.{IsScenario};
 ghost use Rattle.txn_replay.specs.Laws.{IsFair};
 ghost use Rattle.txn_replay.specs.World.{World as Told};
 ghost use Rattle.txn_replay.specs.Seen.{WorldStands};
@@ -21,7 +21,7 @@ use issuer_host::Account;
 use kernel::Tally;
 use report_text::Text;
 use report_text::pieces::{amount, append, number};
-use scenario::Scenario;
+use scenario_plan::Scenario;
 use std::alloc::{AllocError, Global};
 use txn_replay::World;
 

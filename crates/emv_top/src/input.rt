@@ -1,6 +1,6 @@
 //! The bytes that were read, as a scenario or its first fault.
 ghost use Rattle.std.specs.Prelude.{◌≡◌, ◌≤◌, length, codes, IfOk};
-ghost use Rattle.scenario.specs.Plan.{IsScenario};
+ghost use Rattle.scenario_plan.specs.Plan.{IsScenario};
 ghost use Rattle.scenario_fields.specs.Fault.{TellsFault};
 ghost use Rattle.scenario_fields.specs.declared.fault.ScenarioFault.TheVariants.{UnknownName};
 ghost use Rattle.txn_replay.specs.Reading.{to_read};
@@ -8,7 +8,8 @@ ghost use Rattle.emv_top.specs.declared.words.Task.{Task};
 ghost use Rattle.emv_top.specs.Input.{IsInput, first_purchases};
 
 use crate::words::Task;
-use scenario::{Path, Scenario, ScenarioFault, read_scenario};
+use scenario::{Path, ScenarioFault, read_scenario};
+use scenario_plan::Scenario;
 use std::alloc::Global;
 
 /// The fault of a scenario of which no card can be read.

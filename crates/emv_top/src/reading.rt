@@ -12,7 +12,7 @@ ghost use Rattle.emv_top.specs.Stops.{Emits, HasStop};
 ghost use Rattle.emv_top.specs.Texts.{text_of_lines};
 ghost use Rattle.report_text.specs.Text.{line_text};
 ghost use Rattle.report_text.specs.Told.{HasLineBytes, IsEndingTold};
-ghost use Rattle.scenario.specs.Plan.{ScenarioData};
+ghost use Rattle.scenario_plan.specs.Plan.{ScenarioData};
 ghost use Rattle.txn_replay.specs.Reading.{is_read, data_at, ending_at, read_lines, object_line, to_read};
 ghost use Rattle.txn_replay.specs.World.{World as Told, first_world};
 ghost use Rattle.txn_replay.specs.Seen.{WorldStands};
@@ -27,7 +27,7 @@ use emv_ports::{Pages, Sink};
 use env_map::Env;
 use object_lists::CardData;
 use report_text::{Line, Text};
-use scenario::Scenario;
+use scenario_plan::Scenario;
 use txn_replay::World;
 
 fn copied<const N: usize>(bytes: &[u8]) -> ArrayVec<u8, N>

@@ -7,7 +7,7 @@ ghost use Rattle.emv_top.specs.StatusCode.{SinkCount};
 ghost use Rattle.emv_top.specs.Stops.{HasStop};
 ghost use Rattle.emv_top.specs.declared.status.Status.{Status};
 ghost use Rattle.emv_top.specs.declared.words.Task.{Task};
-ghost use Rattle.scenario.specs.Plan.{IsScenario};
+ghost use Rattle.scenario_plan.specs.Plan.{IsScenario};
 ghost use Rattle.txn_replay.specs.Laws.{IsFair};
 ghost use Rattle.txn_replay.specs.Run.{Reached, Scheduled, Round, Settling, Auditing, Finished, all_over};
 ghost use Rattle.txn_replay.specs.World.{World as Told, first_world};
@@ -22,7 +22,7 @@ use crate::lines::EventBuffers;
 use crate::status::Status;
 use crate::stop::Stop;
 use emv_ports::{Pages, Sink};
-use scenario::Scenario;
+use scenario_plan::Scenario;
 use std::alloc::Global;
 use txn_replay::{
     NoWorld, World, captures_are_sent, cards_are_named, commands_are_told, dialects_show,

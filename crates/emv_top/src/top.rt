@@ -11,7 +11,7 @@ ghost use Rattle.emv_top.specs.Words.{HasFewPurchases, asks_source, subcommand_o
 ghost use Rattle.emv_top.specs.declared.status.Status.{Status};
 ghost use Rattle.emv_top.specs.declared.words.Task.{Task};
 ghost use Rattle.emv_top.specs.declared.words.Subcommand.{Subcommand};
-ghost use Rattle.scenario.specs.Plan.{IsScenario, ScenarioData};
+ghost use Rattle.scenario_plan.specs.Plan.{IsScenario, ScenarioData};
 ghost use Rattle.txn_replay.specs.Reading.{to_read};
 
 use crate::bank::BlankBank;
@@ -27,7 +27,8 @@ use crate::words::{Subcommand, Task, read_subcommand, usage};
 use emv_ports::{Failed, Pages, ReadFault, Sink, Source, read_up_to, write_all};
 use kernel::Tally;
 use kernel::laws::reading_captures_nothing;
-use scenario::{MOST_BYTES, Scenario};
+use scenario::MOST_BYTES;
+use scenario_plan::Scenario;
 use std::alloc::Global;
 use txn_replay::{NoWorld, World, runs_are_fair};
 

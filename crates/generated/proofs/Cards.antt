@@ -13,13 +13,12 @@ use Rattle.emv_dict.specs.Pan.{pan_field}
 use Rattle.issuer_host.specs.Account.{IsAccount}
 use Rattle.object_lists.specs.DolEntries.{dol_entry_at, entries_from, entries_behind}
 use Rattle.pin_block.specs.Block.{block_of}
-use Rattle.scenario.specs.CardRules.{IsCard}
-use Rattle.scenario.specs.Cards.{app_with, opening_state}
-use Rattle.scenario.specs.Plan.{HasPlainName}
+use Rattle.scenario_plan.specs.Cards.{IsCard}
+use Rattle.scenario_plan.specs.Plan.{HasPlainName}
 use Rattle.scenario_fields.specs.Value.{is_one_of}
 use Rattle.scenario_fields.specs.declared.spot.Characters.TheVariants.{LowercaseOrDigit}
 use Rattle.generated.proofs.Numbered.{digit_character}
-use Rattle.generated.specs.Card.{cdol1, cdol2, generated_app, generated_image, generated_card, generated_files, holder_record}
+use Rattle.generated.specs.Card.{cdol1, cdol2, generated_app, generated_image, generated_card, generated_opening, holder_record}
 use Rattle.generated.specs.Issuer.{generated_account, pin}
 
 pub account_rules : (card : ℕ) → IsAccount (generated_account card)
@@ -48,7 +47,7 @@ unfolding block_of nibbles packed
 reference_block = refl
 
 app_rules : (card : ℕ) → KeepsRules (generated_app card)
-unfolding generated_app app_with generated_files opening_state holder_record pan_field
+unfolding generated_app generated_opening holder_record pan_field
 app_rules card = record {
   name = refl;
   label = refl;

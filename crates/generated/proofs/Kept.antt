@@ -6,9 +6,8 @@ use Rattle.std.specs.List.{All, range_with_len}
 use Rattle.issuer_host.specs.Account.{AccountData, IsAccount}
 use Rattle.issuer_host.specs.declared.keys.HostKeys.{HostKeys}
 use Rattle.scenario_fields.specs.declared.place.LaneAt.TheVariants.{Numbered}
-use Rattle.scenario.specs.CardRules.{IsCard, AreCards}
-use Rattle.scenario.specs.Cards.{CardData}
-use Rattle.scenario.specs.Plan.{HasPlainName, AreScenarioTables, IsScenario}
+use Rattle.scenario_plan.specs.Cards.{IsCard, AreCards, CardData}
+use Rattle.scenario_plan.specs.Plan.{HasPlainName, AreScenarioTables, IsScenario}
 use Rattle.scenario_lanes.specs.Plan.{LaneData, IsLane, HasCards, HasOwnPages}
 use Rattle.generated.proofs.Cards.{account_rules, card_rules, plain_name, own_pans, own_names}
 use Rattle.generated.proofs.Lanes.{lane_rules, lane_cards, lane_no_choice, all_purchases}

@@ -2,10 +2,11 @@
 use Rattle.std.specs.Prelude.{ℕ, ◌+◌, List, [], ◌∷◌, ◌++◌, codes, false, Some, None}
 use Rattle.card_files.specs.AppRules.{reference_pin}
 use Rattle.card_files.specs.Views.{RecordData, AppData, ImageData}
+use Rattle.card_keys.specs.Master.{master_key_of}
+use Rattle.card_state.specs.declared.state.AppState.{AppState}
 use Rattle.emv_dict.specs.Bcd.{two_digits}
 use Rattle.emv_dict.specs.Pan.{pan_field}
-use Rattle.scenario.specs.Cards.{FilesData, HolderData, CountersData, AccessData, CardData, app_with}
-use Rattle.scenario.specs.declared.extras.Extras.{Extras}
+use Rattle.scenario_plan.specs.Cards.{CardData}
 use Rattle.generated.specs.Issuer.{generated_keys, generated_pan, code, pin}
 
 -- the name of the application
@@ -46,8 +47,32 @@ rules_record =
 abbrev pub generated_record : ℕ → List ℕ → RecordData
 generated_record number bytes = record { sfi = 1; number = number; bytes = bytes }
 
-unfoldable pub generated_files : ℕ → FilesData
-generated_files card = record {
+-- nothing is counted yet, and the log is empty
+unfoldable pub generated_opening : AppState
+generated_opening = record {
+  counter = 10;
+  last_online = 9;
+  count = 0;
+  sum = 0;
+  count_limit = 5;
+  sum_limit = 20000;
+  tries = 3;
+  blocked = false;
+  auth_failed = false;
+  pin = reference_pin (Some pin);
+  sum_two = 0;
+  limit_two = 0;
+  log_max = 0;
+  log = record { items = [] };
+}
+
+-- the records of a card's one file
+abbrev pub generated_records : ℕ → List RecordData
+generated_records card = generated_record 1 (holder_record card) ∷ generated_record 2 lists_record ∷ generated_record 3 rules_record ∷ []
+
+-- the one application of a card, without a second currency and a log; its keys are derived from the issuer's
+unfoldable pub generated_app : ℕ → AppData
+generated_app card = record {
   name = application;
   label = codes "CREDIT";
   priority = Some 1;
@@ -58,25 +83,20 @@ generated_files card = record {
   ac_format = 1;
   cdol1 = cdol1;
   cdol2 = cdol2;
-  records = generated_record 1 (holder_record card) ∷ generated_record 2 lists_record ∷ generated_record 3 rules_record ∷ [];
+  records = generated_records card;
+  pan = generated_pan card;
+  sequence = two_digits 1;
+  currency = code;
+  opening = generated_opening;
+  tries = 3;
+  ac_key = master_key_of generated_keys.ac (generated_pan card) (two_digits 1);
+  currency_two = None;
+  limit_two = 0;
+  log = 0;
+  log_sfi = 11;
+  mac_key = master_key_of generated_keys.mac (generated_pan card) (two_digits 1);
+  enc_key = master_key_of generated_keys.enc (generated_pan card) (two_digits 1);
 }
-
-abbrev pub generated_holder : ℕ → HolderData
-generated_holder card = record { pan = generated_pan card; sequence = two_digits 1; currency = code }
-
-abbrev pub counters : CountersData
-counters = record { counter = 10; last_online = 9; count_limit = 5; sum_limit = 20000 }
-
-abbrev pub access : AccessData
-access = record { pin = reference_pin (Some pin); tries = 3; blocked = false; ac_key = None }
-
--- no second currency and no log
-abbrev pub extras : Extras
-extras = record { currency_two = None; limit_two = 0; log = 0; log_sfi = 11 }
-
--- the one application of a card
-unfoldable pub generated_app : ℕ → AppData
-generated_app card = app_with generated_keys (generated_files card) (generated_holder card) counters access extras
 
 -- the card has its state in today's form and no directory
 abbrev pub generated_image : ℕ → ImageData

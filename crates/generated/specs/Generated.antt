@@ -1,7 +1,7 @@
 -- The scenario of so many purchases that anyone can make again.
 use Rattle.std.specs.Prelude.{ℕ, [], map}
 use Rattle.std.specs.List.{range_with_len}
-use Rattle.scenario.specs.Plan.{ScenarioData}
+use Rattle.scenario_plan.specs.Plan.{ScenarioData}
 use Rattle.generated.specs.Card.{generated_card}
 use Rattle.generated.specs.Issuer.{generated_keys, generated_account}
 use Rattle.generated.specs.Lanes.{lanes, generated_lane}

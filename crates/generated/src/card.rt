@@ -1,22 +1,21 @@
 //! The cards, each with one application.
 ghost use Rattle.std.specs.Prelude.{◌≡◌, ◌<◌, IfOk, map};
 ghost use Rattle.std.specs.List.{range_with_len};
-ghost use Rattle.scenario.specs.Cards.{opening_state};
-ghost use Rattle.scenario.specs.Seen.{seen_card, seen_cards};
-ghost use Rattle.generated.specs.Card.{application, holder_record, generated_files, generated_app, generated_image, generated_card};
+ghost use Rattle.scenario_plan.specs.SeenCards.{seen_card, seen_cards};
+ghost use Rattle.generated.specs.Card.{application, holder_record, generated_records, generated_app, generated_image, generated_card};
 ghost use Rattle.generated.specs.Card as spec;
 ghost use Rattle.generated.specs.Issuer.{generated_keys, generated_pan, pin as pin_digits};
 ghost use Rattle.generated.specs.Purchases.{cards};
 
 use crate::issuer::{CARDS, CODE, pan, pin};
+use arrayvec::ArrayVec;
 use card_files::rules::reference_pin;
 use card_files::{AppImage, Image, RecordImage};
 use card_keys::master_key;
 use card_state::AppState;
 use emv_dict::{Digits, Name, pan_field, two_digits};
 use issuer_host::HostKeys;
-use scenario::extras::no_log;
-use scenario::{CardKind, NamedCard};
+use scenario_plan::{CardKind, NamedCard};
 use std::alloc::{AllocError, Global};
 
 /// The name of the application.
@@ -113,10 +112,9 @@ fn record(number: u8, bytes: Vec<u8>) -> RecordImage
 }
 
 /// The records of a card.
-#[tactic(auto, unfolding(crate::specs::Card::generated_files))]
 fn records(alloc: Global, card: u8) -> Result<Vec<RecordImage>, AllocError>
     requires { card < 8 }
-    ensures { IfOk result (λ records. records.items ≡ (generated_files card).records) }
+    ensures { IfOk result (λ records. records.items ≡ generated_records card) }
 {
     let mut records = Vec::with_capacity(alloc, 3)?;
     records.push(record(1, holder_record(alloc, card)?))?;
@@ -126,9 +124,9 @@ fn records(alloc: Global, card: u8) -> Result<Vec<RecordImage>, AllocError>
 }
 
 /// The state of the application before its first decision.
-#[tactic(auto, unfolding(scenario::specs::Cards::opening_state))]
+#[tactic(auto, unfolding(crate::specs::Card::generated_opening))]
 fn opening() -> AppState
-    ensures { result ≡ opening_state spec.counters spec.access spec.extras }
+    ensures { result ≡ spec.generated_opening }
 {
     let pin = reference_pin(&Some(pin()));
     AppState {
@@ -145,12 +143,12 @@ fn opening() -> AppState
         sum_two: 0,
         limit_two: 0,
         log_max: 0,
-        log: no_log(),
+        log: ArrayVec::new(),
     }
 }
 
 /// The application of a card; its keys are derived from the issuer's.
-#[tactic(auto, unfolding(crate::specs::Card::generated_app, crate::specs::Card::generated_files, scenario::specs::Cards::app_with))]
+#[tactic(auto, unfolding(crate::specs::Card::generated_app))]
 fn app(alloc: Global, issuer: &HostKeys, card: u8) -> Result<AppImage, AllocError>
     requires issuer { issuer.now ≡ generated_keys }
     requires card { card < 8 }
@@ -208,7 +206,7 @@ fn image(alloc: Global, issuer: &HostKeys, card: u8) -> Result<Image, AllocError
 }
 
 /// A card with its name, `c0` and on.
-#[tactic(auto, unfolding(crate::specs::Card::generated_card, scenario::specs::Seen::seen_card))]
+#[tactic(auto, unfolding(crate::specs::Card::generated_card, scenario_plan::specs::SeenCards::seen_card))]
 fn card(alloc: Global, issuer: &HostKeys, number: u8) -> Result<NamedCard, AllocError>
     requires issuer { issuer.now ≡ generated_keys }
     requires card { number < 8 }

@@ -10,7 +10,7 @@ use crate::issuer::CODE;
 use crate::purchase::{next_number, planned};
 use emv_dict::{AidRow, Settings};
 use issuer_host::HostKeys;
-use scenario::{Lane, Planned};
+use scenario_lanes::{Lane, Planned};
 use std::alloc::{AllocError, Global};
 
 /// How many lanes there are.

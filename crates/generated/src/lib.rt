@@ -3,7 +3,7 @@
 
 ghost use Rattle.std.specs.Prelude.{◌≡◌, ◌≤◌, IfOk, IfSome};
 ghost use Rattle.std.specs.List.{All};
-ghost use Rattle.scenario.specs.Plan.{IsScenario};
+ghost use Rattle.scenario_plan.specs.Plan.{IsScenario};
 ghost use Rattle.generated.specs.Generated.{generated_of};
 ghost use Rattle.generated.specs.Purchases.{LeavesNoChoice};
 
@@ -15,7 +15,7 @@ mod purchase;
 use crate::card::cards;
 use crate::issuer::{accounts, issuer_keys};
 use crate::lane::lanes;
-use scenario::Scenario;
+use scenario_plan::Scenario;
 use std::alloc::{AllocError, Global};
 
 /// How often each settlement message is sent.

@@ -7,7 +7,7 @@ ghost use Rattle.generated.specs.Purchases.{purchase_by, link_by, tear_by, plann
 use crate::issuer::{CARDS, CODE, pin};
 use emv_dict::{Digits, Purchase};
 use emv_ports::{Tear, TearAt};
-use scenario::{Link, Planned};
+use scenario_lanes::{Link, Planned};
 use std::alloc::{AllocError, Global};
 
 /// The multiplier of the linear congruential generator.

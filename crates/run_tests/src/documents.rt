@@ -4,7 +4,9 @@ use crate::rows::BASE;
 use crate::runs::{ANSWER, Row, changed, play, run_of};
 use emv_ports::{Tear, TearAt};
 use issuer_host::Word;
-use scenario::{Link, Scenario, read_scenario};
+use scenario::read_scenario;
+use scenario_lanes::Link;
+use scenario_plan::Scenario;
 use std::alloc::Global;
 use std::test::Fail;
 

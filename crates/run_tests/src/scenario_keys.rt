@@ -3,7 +3,8 @@ use crate::documents::read;
 use crate::facts::agree;
 use card_files::{AppImage, Image, RecordImage};
 use issuer_host::Method;
-use scenario::{Link, Scenario};
+use scenario_lanes::Link;
+use scenario_plan::Scenario;
 use std::test::Fail;
 
 /// The issuer's keys.

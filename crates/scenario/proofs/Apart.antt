@@ -19,8 +19,9 @@ use Rattle.scenario_fields.specs.Fields.{number_at, flag_or, text_at, digits_at,
 use Rattle.scenario_fields.specs.TablePaths.{at_top, in_account, in_card, item_path}
 use Rattle.scenario.proofs.CardParts.{not_true}
 use Rattle.scenario.specs.Accounts.{has_pan, new_pan, scripts_at, method_at, status_at, account_keys, account_of, account_item, accounts_from}
-use Rattle.scenario.specs.Cards.{CardData, is_name_used, new_card_name, card_of, card_keys, card_item, cards_from, cards_at, card_kind_at}
-use Rattle.scenario.specs.Plan.{HasPlainName, HaveOwnPans}
+use Rattle.scenario.specs.Cards.{is_name_used, new_card_name, card_of, card_keys, card_item, cards_from, cards_at, card_kind_at}
+use Rattle.scenario_plan.specs.Cards.{CardData}
+use Rattle.scenario_plan.specs.Plan.{HasPlainName, HaveOwnPans}
 
 differ : (xs ys : List ℕ) → bytes_eq xs ys ≡ false → xs ≢ ys
 differ xs ys other same = cc ((bytes_eq-Decides xs ys).1 same, other)

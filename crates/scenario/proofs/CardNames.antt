@@ -4,8 +4,8 @@ use Rattle.std.proofs.lemmas.List.{length-map}
 use Rattle.std.specs.List.{list_any}
 use Rattle.std.specs.Str.{bytes_eq}
 use Rattle.scenario.specs.Cards.{is_name_used, card_names}
-use Rattle.scenario.specs.Seen.{seen_card, seen_cards}
-use Rattle.scenario.specs.declared.plan.NamedCard.{NamedCard}
+use Rattle.scenario_plan.specs.SeenCards.{seen_card, seen_cards}
+use Rattle.scenario_plan.specs.declared.plan.NamedCard.{NamedCard}
 
 pub is_named_seen : (name : List ℕ) (cards : List NamedCard) → list_any (λ c. bytes_eq c.name.items name) cards ≡ is_name_used name (seen_cards cards)
 unfolding is_name_used seen_card

@@ -18,11 +18,12 @@ use Rattle.issuer_host.specs.declared.keys.HostKeys.{HostKeys}
 use Rattle.scenario_fields.proofs.Steps.{none_passes}
 use Rattle.scenario_fields.specs.Value.{is_one_of}
 use Rattle.scenario_fields.specs.declared.spot.Characters.TheVariants.{Printable}
-use Rattle.scenario.specs.CardRules.{KeepsFiles, KeepsHolder, KeepsCounters, KeepsAccess, KeepsExtras, AreAnswers, IsNewRecord, IsNewApp, IsCard, IsNewCard}
+use Rattle.scenario.specs.CardRules.{KeepsFiles, KeepsHolder, KeepsCounters, KeepsAccess, KeepsExtras, IsNewRecord, IsNewApp, IsNewCard}
+use Rattle.scenario_plan.specs.Cards.{AreAnswers, IsCard}
 use Rattle.scenario.specs.Cards.{FilesData, HolderData, CountersData, AccessData, app_with, opening_state, has_app_named, is_name_used, hides_one, is_directory}
-use Rattle.scenario.specs.Seen.{seen_card, seen_cards}
+use Rattle.scenario_plan.specs.SeenCards.{seen_card, seen_cards}
 use Rattle.scenario.specs.declared.extras.Extras.{Extras}
-use Rattle.scenario.specs.declared.plan.NamedCard.{NamedCard}
+use Rattle.scenario_plan.specs.declared.plan.NamedCard.{NamedCard}
 
 pub records_apart : (old new : List RecordData) (r : RecordData) → new ≡ old ++ r ∷ [] → IsTrue (are_apart old)
     → IsNewRecord old r → IsTrue (are_apart new)

@@ -1,14 +1,15 @@
 -- What the readers of a card's keys make sure of: the rules of its image, part by part.
-use Rattle.std.specs.Prelude.{◌≡◌, ◌≢◌, ℕ, ◌≤◌, false, List, length, Option, Some, None, IsTrue}
-use Rattle.std.specs.List.{All, AllPairs, list_any}
+use Rattle.std.specs.Prelude.{◌≡◌, ℕ, ◌≤◌, false, List, length, Option, IsTrue}
+use Rattle.std.specs.List.{list_any}
 use Rattle.card_files.specs.AppRules.{is_name, is_label, is_afl, is_format, is_record, is_pair, are_records, is_reference_pin, is_sum_limit, is_tries, is_second_code, is_log_size, is_log_file}
-use Rattle.card_files.specs.ImageRules.{KeepsRules, IsImage}
+use Rattle.card_files.specs.ImageRules.{KeepsRules}
 use Rattle.card_files.specs.Lists.{is_optional_pdol, is_cdol1, is_cdol2, leaves_room}
-use Rattle.card_files.specs.Views.{RecordData, AppData, ImageData}
+use Rattle.card_files.specs.Views.{RecordData, AppData}
 use Rattle.emv_dict.specs.Bcd.{has_digits}
 use Rattle.emv_dict.specs.Pan.{is_pan_length}
 use Rattle.emv_dict.specs.Settings.{is_code}
-use Rattle.scenario.specs.Cards.{FilesData, HolderData, CountersData, AccessData, CardData, no_image, has_app_named, is_name_used}
+use Rattle.scenario.specs.Cards.{FilesData, HolderData, CountersData, AccessData, has_app_named, is_name_used}
+use Rattle.scenario_plan.specs.Cards.{CardData, IsCard}
 use Rattle.scenario.specs.declared.extras.Extras.{Extras}
 
 -- a record in its limits, of a number that no earlier one of its file has
@@ -53,30 +54,7 @@ pub record IsNewApp (earlier : List AppData) (app : AppData) : Type 0 where
   pub rules : KeepsRules app
   pub first : has_app_named app.name earlier ≡ false
 
--- at most 300 answers, each of at most 258 bytes
-pub record AreAnswers (answers : List (List ℕ)) : Type 0 where
-  pub few : length answers ≤ 300
-  pub short : All (λ answer. length answer ≤ 258) answers
-
--- an image, or none beside canned answers
-abbrev pub IsKind : ImageData → Option (List (List ℕ)) → Type 0
-IsKind image None = IsImage image
-IsKind image (Some answers) = (image ≡ no_image) × AreAnswers answers
-
--- a card of a scenario by itself: its name has 1 to 16 characters, and it has an image or canned answers
-pub record IsCard (card : CardData) : Type 0 where
-  pub some_name : 1 ≤ length card.name
-  pub short_name : length card.name ≤ 16
-  pub kind : IsKind card.image card.canned
-
 -- such a card, of a name that no earlier one has
 pub record IsNewCard (earlier : List CardData) (card : CardData) : Type 0 where
   pub rules : IsCard card
   pub first : is_name_used card.name earlier ≡ false
-
--- the cards of a scenario: 1 to 64, each in its rules and with a name of its own
-pub record AreCards (cards : List CardData) : Type 0 where
-  pub some : 1 ≤ length cards
-  pub few : length cards ≤ 64
-  pub each : All IsCard cards
-  pub names : AllPairs (λ a b. a.name ≢ b.name) cards

@@ -17,6 +17,7 @@ use Rattle.object_lists.specs.declared.dol.DolFault.{DolFault}
 use Rattle.scenario.specs.Extras.{extras_of}
 use Rattle.scenario.specs.declared.extras.Extras.{Extras}
 use Rattle.toml.specs.Data.{Data, Items, no_items, item, Members, get_member}
+use Rattle.scenario_plan.specs.Cards.{CardData, no_image}
 use Rattle.scenario_fields.specs.Fault.{◌>>=◌, keep_if}
 use Rattle.scenario_fields.specs.Fields.{absent, number_at, number_or, optional_number, listed_or, flag_or, text_at, digits_at, optional_digits, code_at, bytes_at, optional_bytes, array_at, each, only}
 use Rattle.scenario_fields.specs.TablePaths.{item_path, at_top, in_card, in_app, in_record}
@@ -277,10 +278,6 @@ pub record KindData : Type 0 where
   pub image : ImageData
   pub canned : Option (List (List ℕ))
 
--- a card of canned answers has no applications, and so no state and no directory
-abbrev pub no_image : ImageData
-no_image = record { apps = []; version = 2; directory = None }
-
 -- the form of the card's state when the scenario begins
 unfoldable pub version_at : (List ℕ → List ℕ) → Members → Result ℕ ScenarioFault
 version_at path ms = listed_or 2 path (codes "version") (1 ∷ 2 ∷ []) ms
@@ -324,12 +321,6 @@ has_key key ms = is_some (get_member key ms)
 unfoldable pub card_kind_at : ℕ → HostKeys → Members → Result KindData ScenarioFault
 card_kind_at i keys ms =
     if has_key (codes "canned") ms && not (has_key (codes "app") ms) then canned_kind (in_card i) ms else image_kind i keys ms
-
--- a card by its name: its image; or none, and the answers that it gives to its commands, whatever they are
-pub record CardData : Type 0 where
-  pub name : List ℕ
-  pub image : ImageData
-  pub canned : Option (List (List ℕ))
 
 unfoldable pub is_name_used : List ℕ → List CardData → Bool
 is_name_used name cards = list_any (λ c. bytes_eq c.name name) cards

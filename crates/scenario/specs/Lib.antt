@@ -3,7 +3,6 @@ pub mod CardRules
 pub mod Cards
 pub mod Extras
 pub mod Issuer
-pub mod Plan
 pub mod Scenario
 pub mod Schedule
 pub mod Seen

@@ -11,7 +11,7 @@ use Rattle.scenario_fields.specs.declared.fault.ScenarioFault.TheVariants.{Toml,
 use Rattle.scenario.specs.Accounts.{accounts_at}
 use Rattle.scenario.specs.Cards.{cards_at, card_names}
 use Rattle.scenario.specs.Issuer.{issuer_at}
-use Rattle.scenario.specs.Plan.{ScenarioData}
+use Rattle.scenario_plan.specs.Plan.{ScenarioData}
 use Rattle.scenario.specs.declared.read.TheConstants.{MOST_BYTES}
 use Rattle.scenario.specs.Schedule.{schedule_at, known_lanes}
 use Rattle.scenario_lanes.specs.Cards.{known_from}

@@ -8,7 +8,7 @@ ghost use Rattle.scenario_fields.specs.Fault.{Gives};
 ghost use Rattle.scenario_fields.specs.Fields.{only};
 ghost use Rattle.scenario_fields.specs.TablePaths.{path};
 ghost use Rattle.scenario.specs.Accounts.{has_pan, new_pan, method_at, status_at, account_keys, account_of, account_item, accounts_from, accounts_at};
-ghost use Rattle.scenario.specs.Plan.{HaveOwnPans};
+ghost use Rattle.scenario_plan.specs.Plan.{HaveOwnPans};
 
 use crate::script::scripts_at;
 use emv_dict::{Digits, LEAST_PAN, MOST_AMOUNT, MOST_PAN};

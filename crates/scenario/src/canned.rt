@@ -5,7 +5,7 @@ ghost use Rattle.toml.specs.View.{view, table_view, items_view};
 ghost use Rattle.scenario_fields.specs.Fault.{Gives};
 ghost use Rattle.scenario_fields.specs.Fields.{each};
 ghost use Rattle.scenario_fields.specs.TablePaths.{path};
-ghost use Rattle.scenario.specs.CardRules.{AreAnswers};
+ghost use Rattle.scenario_plan.specs.Cards.{AreAnswers};
 ghost use Rattle.scenario.specs.Cards.{canned_item, canned_at};
 
 use scenario_fields::{Fields, ScenarioFault};

@@ -8,17 +8,19 @@ ghost use Rattle.toml.specs.View.{view, table_view, items_view};
 ghost use Rattle.scenario_fields.specs.Fault.{Gives};
 ghost use Rattle.scenario_fields.specs.Fields.{only, optional_number};
 ghost use Rattle.scenario_fields.specs.TablePaths.{path};
-ghost use Rattle.scenario.specs.CardRules.{IsKind, IsCard, IsNewCard, AreCards};
+ghost use Rattle.scenario.specs.CardRules.{IsNewCard};
+ghost use Rattle.scenario_plan.specs.Cards.{IsKind, IsCard, AreCards};
 ghost use Rattle.scenario.specs.Cards as spec;
 ghost use Rattle.scenario.specs.Cards.{card_keys, card_of, card_item as item_of, cards_from, apps_from, apps_at as apps_found, version_at as version_found, directory_at as directory_found, canned_kind as canned_found, image_kind as image_found, card_kind_at as kind_found, cards_at as cards_found};
-ghost use Rattle.scenario.specs.Seen.{image_of, canned_of, seen_kind, seen_card, seen_cards};
+ghost use Rattle.scenario.specs.Seen.{seen_kind};
+ghost use Rattle.scenario_plan.specs.SeenCards.{image_of, canned_of, seen_card, seen_cards};
 
 use crate::app::app_item;
 use crate::canned::canned_at;
-use crate::plan::{CardKind, NamedCard};
 use card_files::{AppImage, DIRECTORY_NAME, Image};
 use issuer_host::HostKeys;
 use scenario_fields::{Characters, Fields, ScenarioFault, Spot, TablePlace};
+use scenario_plan::{CardKind, NamedCard};
 use std::alloc::Global;
 use toml::{Table, Value};
 
@@ -229,7 +231,7 @@ fn kind_at(
 }
 
 /// A card behind earlier ones.
-#[tactic(auto, unfolding(crate::specs::Cards::card_of, crate::specs::Seen::seen_card))]
+#[tactic(auto, unfolding(crate::specs::Cards::card_of, scenario_plan::specs::SeenCards::seen_card))]
 fn read_card(
     alloc: Global,
     index: usize,

@@ -9,13 +9,10 @@ pub mod card;
 pub mod extras;
 pub mod issuer;
 mod lists;
-pub mod plan;
 pub mod read;
 pub mod record;
 pub mod schedule;
 pub mod script;
 
-pub use plan::{CardKind, NamedCard, Scenario};
 pub use read::{MOST_BYTES, read_scenario};
 pub use scenario_fields::{Path, ScenarioFault};
-pub use scenario_lanes::{Lane, Link, Planned};

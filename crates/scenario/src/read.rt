@@ -9,17 +9,17 @@ ghost use Rattle.scenario_fields.specs.declared.fault.ScenarioFault.TheVariants.
 ghost use Rattle.scenario_lanes.specs.Lanes.{lanes_at as lanes_found};
 ghost use Rattle.scenario_lanes.specs.Plan.{IsLane, HasCards, HaveRoom, purchase_count};
 ghost use Rattle.scenario.specs.Cards.{card_names as names_of};
-ghost use Rattle.scenario.specs.Plan.{AreScenarioTables, IsScenario};
+ghost use Rattle.scenario_plan.specs.Plan.{AreScenarioTables, IsScenario};
 ghost use Rattle.scenario.specs.Scenario.{top_keys, tables_of, names_known as names_tried, scenario_of, ReadsScenario};
-ghost use Rattle.scenario.specs.Seen.{seen_cards};
+ghost use Rattle.scenario_plan.specs.SeenCards.{seen_cards};
 
 use crate::account::accounts_at;
 use crate::card::cards_at;
 use crate::issuer::issuer_at;
-use crate::plan::{NamedCard, Scenario};
 use crate::schedule::{known_lanes, schedule_at};
 use scenario_fields::{Fields, ScenarioFault, Spot, TablePlace};
 use scenario_lanes::{Lane, known_cards, lanes_at};
+use scenario_plan::{NamedCard, Scenario};
 use std::alloc::{AllocError, Global};
 use toml::Table;
 

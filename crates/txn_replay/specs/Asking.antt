@@ -7,7 +7,7 @@ use Rattle.kernel.specs.Dialogue.{dialogue}
 use Rattle.kernel.specs.Reply.{Reply, ToCard as asks_card}
 use Rattle.report_text.specs.declared.line.Line.{Line}
 use Rattle.report_text.specs.declared.line.Line.TheVariants.{ToCard, FromCard, Torn, Gone}
-use Rattle.scenario.specs.Plan.{ScenarioData}
+use Rattle.scenario_plan.specs.Plan.{ScenarioData}
 use Rattle.txn_replay.specs.Payment.{Payment, next_of, outset_for}
 use Rattle.txn_replay.specs.Run.{RunPlace, Reached, Run}
 use Rattle.txn_replay.specs.Sessions.{session_told, IsSessionOf}

@@ -7,8 +7,8 @@ use Rattle.card_app.specs.SeenIcc.{IccSeen, IccOn}
 use Rattle.card_pages.specs.Pages.{found_of}
 use Rattle.report_text.specs.declared.line.Line.{Line}
 use Rattle.risk_mgmt.specs.Counters.{counter_tag, last_online_tag, get_data}
-use Rattle.scenario.specs.Cards.{CardData}
-use Rattle.scenario.specs.Seen.{seen_card}
+use Rattle.scenario_plan.specs.Cards.{CardData}
+use Rattle.scenario_plan.specs.SeenCards.{seen_card}
 use Rattle.txn_replay.specs.Changes.{powered, exchanged}
 use Rattle.txn_replay.specs.Lines.{audit_power_line, audit_lines}
 use Rattle.txn_replay.specs.RunCard.{RunCardSeen, RunCardOn, RunCardOff}

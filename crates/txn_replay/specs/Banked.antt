@@ -11,7 +11,7 @@ use Rattle.card_pages.specs.Pages.{MayStand, StandsFor}
 use Rattle.card_state.specs.Decisions.{Decided}
 use Rattle.emv_ports.specs.Memory.{Memory, IsBlank}
 use Rattle.emv_ports.specs.declared.tear.Tear.{Tear}
-use Rattle.scenario.specs.Cards.{CardData}
+use Rattle.scenario_plan.specs.Cards.{CardData}
 use Rattle.scenario_lanes.specs.Plan.{LaneData, last_pages}
 use Rattle.txn_replay.specs.RunCard.{RunCardSeen, OfApps, OfCanned, RunCardOff, IsRunCardOf, HasLost}
 

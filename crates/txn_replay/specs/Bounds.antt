@@ -1,7 +1,7 @@
 -- How much a run comes to, by its scenario (this project's own).
 use Rattle.std.specs.Prelude.{◌≡◌, ℕ, ◌+◌, ◌*◌, ◌≤◌, Bool, List, length, slice_get, Option, Some, None}
 use Rattle.report_text.specs.declared.line.Line.{Line}
-use Rattle.scenario.specs.Plan.{ScenarioData, IsScenario}
+use Rattle.scenario_plan.specs.Plan.{ScenarioData, IsScenario}
 use Rattle.scenario_lanes.specs.Plan.{LaneData, purchase_count}
 use Rattle.txn_replay.specs.Run.{RunPlace, Reached, ended_count}
 use Rattle.txn_replay.specs.Steps.{settlements, checks}

@@ -7,7 +7,7 @@ use Rattle.card_state.specs.Decisions.{Decided}
 use Rattle.emv_ports.specs.Cut.{names_commit}
 use Rattle.emv_ports.specs.declared.tear.Tear.{Tear}
 use Rattle.report_text.specs.declared.line.Line.{Line}
-use Rattle.scenario.specs.Cards.{CardData}
+use Rattle.scenario_plan.specs.Cards.{CardData}
 use Rattle.txn_replay.specs.Changes.{powered, exchanged, told_once, row_torn}
 use Rattle.txn_replay.specs.Lines.{power_line, power_canned_line, torn_lines, gone_lines}
 use Rattle.txn_replay.specs.RunCard.{RunCardSeen, RunCardOn, RunCardOff, HasLost}

@@ -21,7 +21,7 @@ use Rattle.issuer_host.specs.declared.keys.HostKeys.{HostKeys}
 use Rattle.kernel.specs.Ended.{EndData}
 use Rattle.report_text.specs.declared.line.Line.{Line}
 use Rattle.report_text.specs.declared.line.Line.TheVariants.{SettleCall, EndLost}
-use Rattle.scenario.specs.Plan.{ScenarioData}
+use Rattle.scenario_plan.specs.Plan.{ScenarioData}
 use Rattle.txn_replay.specs.Counting.{lost_count}
 use Rattle.txn_replay.specs.Payment.{Payment, payment_in, dialect_of, durable_of}
 use Rattle.txn_replay.specs.Run.{RunPlace, Reached, Run}

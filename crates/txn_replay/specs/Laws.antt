@@ -6,7 +6,7 @@ use Rattle.host_ledger.specs.declared.key.Key.{Key}
 use Rattle.host_histories.specs.BookedOnce.{IsBooking, TakesAmount}
 use Rattle.report_text.specs.declared.line.Line.{Line}
 use Rattle.report_text.specs.declared.line.Line.TheVariants.{PowerTorn, Torn}
-use Rattle.scenario.specs.Plan.{ScenarioData}
+use Rattle.scenario_plan.specs.Plan.{ScenarioData}
 use Rattle.txn_replay.specs.Payment.{Payment, next_of}
 use Rattle.txn_replay.specs.Run.{RunPlace, Reached, Run, all_over}
 use Rattle.txn_replay.specs.Sound.{IsWorldSound, IsIdle, IsCalm}

@@ -10,7 +10,7 @@ use Rattle.report_text.specs.declared.line.EndParts.{EndParts}
 use Rattle.report_text.specs.declared.line.Line.{Line}
 use Rattle.report_text.specs.declared.line.Line.TheVariants.{Power, PowerCanned, PowerTorn, ToCard, FromCard, Torn, Gone, ToHost, FromHost, NoReply, End, EndLost, AuditPower, AuditAsk, AuditAnswer, SettleCall, SettleReply}
 use Rattle.report_text.specs.declared.line.Shown.{Shown}
-use Rattle.scenario.specs.Cards.{CardData}
+use Rattle.scenario_plan.specs.Cards.{CardData}
 
 -- the counters of a card that has taken these decisions
 abbrev pub shown_after : CardData → List Decided → List Shown

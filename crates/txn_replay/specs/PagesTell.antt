@@ -3,8 +3,8 @@ use Rattle.std.specs.Prelude.{◌≡◌, ℕ, List, slice_get, Some, None}
 use Rattle.card_files.specs.Files.{opening_of}
 use Rattle.card_state.specs.Totals.{totals}
 use Rattle.emv_ports.specs.Memory.{Memory}
-use Rattle.scenario.specs.Cards.{CardData}
-use Rattle.scenario.specs.Plan.{ScenarioData}
+use Rattle.scenario_plan.specs.Cards.{CardData}
+use Rattle.scenario_plan.specs.Plan.{ScenarioData}
 use Rattle.txn_replay.specs.Seen.{BankStands}
 use Rattle.txn_replay.specs.World.{World, card_at}
 

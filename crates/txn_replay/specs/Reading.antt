@@ -6,7 +6,7 @@ use Rattle.kernel.specs.Reply.{Reply}
 use Rattle.object_lists.specs.CardRead.{ReadCard}
 use Rattle.report_text.specs.declared.line.Line.{Line}
 use Rattle.report_text.specs.declared.line.Line.TheVariants as line
-use Rattle.scenario.specs.Plan.{ScenarioData}
+use Rattle.scenario_plan.specs.Plan.{ScenarioData}
 use Rattle.scenario_lanes.specs.Plan.{LaneData}
 use Rattle.scenario_lanes.specs.declared.plan.Planned.{Planned}
 use Rattle.terminal_state.specs.StepResults.{latest, sets_card}

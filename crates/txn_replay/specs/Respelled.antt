@@ -6,7 +6,7 @@ use Rattle.auth_message.specs.Whole.{IsMessage, IsReply}
 use Rattle.host_link.specs.Dialect.{call_in, reply_in}
 use Rattle.report_text.specs.declared.line.Line.{Line}
 use Rattle.report_text.specs.declared.line.Line.TheVariants.{ToHost, FromHost, NoReply, SettleCall, SettleReply}
-use Rattle.scenario.specs.Plan.{ScenarioData, IsScenario}
+use Rattle.scenario_plan.specs.Plan.{ScenarioData, IsScenario}
 use Rattle.scenario_lanes.specs.Plan.{LaneData}
 use Rattle.txn_replay.specs.Payment.{dialect_of}
 use Rattle.txn_replay.specs.Run.{RunPlace, Reached, Run}

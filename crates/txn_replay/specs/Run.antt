@@ -5,7 +5,7 @@ use Rattle.issuer_host.specs.Account.{AccountData}
 use Rattle.issuer_host.specs.History.{balance_after}
 use Rattle.report_text.specs.declared.line.Line.{Line}
 use Rattle.report_text.specs.declared.line.Line.TheVariants.{Balance, Done}
-use Rattle.scenario.specs.Plan.{ScenarioData}
+use Rattle.scenario_plan.specs.Plan.{ScenarioData}
 use Rattle.txn_replay.specs.Payment.{next_of}
 use Rattle.txn_replay.specs.Steps.{Settlement, Check, settlements, checks, Step}
 use Rattle.txn_replay.specs.World.{World, first_world, lane_at}

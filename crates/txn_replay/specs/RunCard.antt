@@ -4,7 +4,7 @@ use Rattle.card_app.specs.SeenIcc.{IccSeen, IccOn, IccOff, icc_is_powered as icc
 use Rattle.card_state.specs.Decisions.{Decided}
 use Rattle.emv_ports.specs.Memory.{Memory, IsBlank}
 use Rattle.emv_ports.specs.declared.tear.Tear.{Tear}
-use Rattle.scenario.specs.Cards.{CardData}
+use Rattle.scenario_plan.specs.Cards.{CardData}
 use Rattle.txn_replay.specs.Counting.{capped_at_64}
 use Rattle.txn_replay.specs.World.{CardRow}
 

@@ -10,8 +10,8 @@ use Rattle.emv_ports.specs.declared.tear.Tear.{Tear}
 use Rattle.issuer_host.specs.History.{HostData, HostStands}
 use Rattle.kernel.specs.Tally.{Counts}
 use Rattle.report_text.specs.declared.line.Line.{Line}
-use Rattle.scenario.specs.Cards.{CardData}
-use Rattle.scenario.specs.Plan.{ScenarioData, IsScenario}
+use Rattle.scenario_plan.specs.Cards.{CardData}
+use Rattle.scenario_plan.specs.Plan.{ScenarioData, IsScenario}
 use Rattle.scenario_lanes.specs.Plan.{LaneData, last_pages}
 use Rattle.txn_replay.specs.Bounds.{IsFewIn}
 use Rattle.txn_replay.specs.Counting.{capped_at_64, counts, lost_count}
@@ -196,3 +196,9 @@ pub record IsNewLane (lane : Lane) : Type 0 where
   pub place : lane.place ≡ None
   pub ending : lane.ending ≡ None
   pub found : lane.found ≡ None
+
+-- the host of a scenario before its first message
+pub record HasOpened (scenario : ScenarioData) (host : HostData) : Type 0 where
+  pub stands : HostStands host []
+  pub keys : host.keys ≡ scenario.issuer
+  pub accounts : host.accounts ≡ scenario.accounts

@@ -1,7 +1,7 @@
 -- What holds of every world of a run, and when a lane waits (this project's own).
 use Rattle.std.specs.Prelude.{◌≡◌, ◌⊎◌, ℕ, List, length, Some, None, ⊤}
 use Rattle.kernel.specs.Reply.{Reply}
-use Rattle.scenario.specs.Plan.{ScenarioData}
+use Rattle.scenario_plan.specs.Plan.{ScenarioData}
 use Rattle.txn_replay.specs.Payment.{Payment, next_of}
 use Rattle.txn_replay.specs.Run.{RunPlace, Scheduled, Round, Settling, Auditing, Finished}
 use Rattle.txn_replay.specs.World.{Holder, World, card_at, lane_at}

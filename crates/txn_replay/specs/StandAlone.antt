@@ -4,7 +4,7 @@ use Rattle.std.specs.List.{list_any}
 use Rattle.std.specs.Str.{bytes_eq}
 use Rattle.host_histories.specs.Apart.{pan_carried, own_accounts}
 use Rattle.report_text.specs.declared.line.Line.{Line}
-use Rattle.scenario.specs.Plan.{ScenarioData, IsScenario}
+use Rattle.scenario_plan.specs.Plan.{ScenarioData, IsScenario}
 use Rattle.txn_replay.specs.Alone.{is_card_of, alone, LaneRun, HasOwnCards, HasOwnNumbers, PartsAgree, is_own, LaneHasNoChoice}
 use Rattle.txn_replay.specs.Choices.{IsSameRun}
 use Rattle.txn_replay.specs.Run.{RunPlace, Finished, Reached, start, scheduled, rounds, round, again, settlement, settling, audit, auditing, finished, Run}

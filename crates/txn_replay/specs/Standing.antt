@@ -22,8 +22,8 @@ use Rattle.kernel.specs.declared.kernel.Next.{Next}
 use Rattle.kernel.specs.declared.kernel.Next.TheVariants as next
 use Rattle.object_lists.specs.CardRead.{ReadCard}
 use Rattle.report_text.specs.declared.line.Line.{Line}
-use Rattle.scenario.specs.Cards.{CardData}
-use Rattle.scenario.specs.Seen.{seen_card}
+use Rattle.scenario_plan.specs.Cards.{CardData}
+use Rattle.scenario_plan.specs.SeenCards.{seen_card}
 use Rattle.txn_replay.specs.Counting.{capped_at_64, lost_count}
 use Rattle.txn_replay.specs.Part.{Part, Moved}
 use Rattle.txn_replay.specs.Payment.{Payment, outset_for}

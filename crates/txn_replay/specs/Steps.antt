@@ -10,8 +10,8 @@ use Rattle.card_pages.specs.Replies.{CardAnswer}
 use Rattle.issuer_host.specs.History.{host_reply}
 use Rattle.report_text.specs.declared.line.Line.{Line}
 use Rattle.risk_mgmt.specs.Counters.{counter_tag, last_online_tag, get_data}
-use Rattle.scenario.specs.Cards.{CardData}
-use Rattle.scenario.specs.Plan.{ScenarioData}
+use Rattle.scenario_plan.specs.Cards.{CardData}
+use Rattle.scenario_plan.specs.Plan.{ScenarioData}
 use Rattle.txn_replay.specs.Changes.{powered, exchanged}
 use Rattle.txn_replay.specs.Lines.{settle_lines, audit_power_line, audit_lines}
 use Rattle.txn_replay.specs.Part.{Part, Moved}

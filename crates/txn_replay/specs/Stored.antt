@@ -3,7 +3,7 @@ use Rattle.std.specs.Prelude.{◌≡◌, ◌⊎◌, ◌==◌, ℕ, ◌-◌, ◌/
 use Rattle.capture_store.specs.Calls.{list_found}
 use Rattle.capture_store.specs.StoreRow.{StoreRow, new_store}
 use Rattle.report_text.specs.declared.line.Line.{Line}
-use Rattle.scenario.specs.Plan.{ScenarioData}
+use Rattle.scenario_plan.specs.Plan.{ScenarioData}
 use Rattle.txn_replay.specs.Payment.{durable_of}
 use Rattle.txn_replay.specs.Run.{RunPlace, Settling, Auditing, Finished, Reached, all_over}
 use Rattle.txn_replay.specs.Steps.{settlements_from}

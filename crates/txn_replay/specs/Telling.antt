@@ -9,7 +9,7 @@ use Rattle.card_files.specs.Views.{AppData, ImageData}
 use Rattle.emv_dict.specs.declared.ending.Kind.{Kind}
 use Rattle.report_text.specs.declared.line.Line.{Line}
 use Rattle.report_text.specs.declared.line.Line.TheVariants.{ToCard, FromCard}
-use Rattle.scenario.specs.Plan.{ScenarioData}
+use Rattle.scenario_plan.specs.Plan.{ScenarioData}
 use Rattle.txn_replay.specs.Changes.{is_generate, is_good}
 use Rattle.txn_replay.specs.Laws.{taken_in}
 use Rattle.txn_replay.specs.Payment.{Payment, next_of}

@@ -10,8 +10,8 @@ use Rattle.kernel.specs.Reply.{Reply, CardSaid, CardGone, HostSaid, HostSilent}
 use Rattle.report_text.specs.declared.line.EndParts.{EndParts}
 use Rattle.report_text.specs.declared.line.Line.{Line}
 use Rattle.report_text.specs.declared.line.Line.TheVariants.{Power, PowerCanned, PowerTorn, FromCard, Torn, Gone, ToHost, FromHost, NoReply, SettleCall, End, EndLost}
-use Rattle.scenario.specs.Cards.{CardData}
-use Rattle.scenario.specs.Plan.{ScenarioData, IsScenario}
+use Rattle.scenario_plan.specs.Cards.{CardData}
+use Rattle.scenario_plan.specs.Plan.{ScenarioData, IsScenario}
 use Rattle.txn_replay.specs.Lines.{end_parts}
 use Rattle.txn_replay.specs.Payment.{Payment, payment_in, dialect_of, outset_for, end_at}
 use Rattle.txn_replay.specs.Run.{RunPlace, Reached, Run}

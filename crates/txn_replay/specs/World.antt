@@ -7,7 +7,7 @@ use Rattle.card_state.specs.Decisions.{Decided}
 use Rattle.emv_dict.specs.declared.purchase.Logged.{Logged}
 use Rattle.kernel.specs.Ended.{EndData}
 use Rattle.kernel.specs.Reply.{Reply}
-use Rattle.scenario.specs.Plan.{ScenarioData}
+use Rattle.scenario_plan.specs.Plan.{ScenarioData}
 
 -- a purchase by its lane and its number in the lane, both from 0
 pub record Holder : Type 0 where

@@ -3,8 +3,8 @@ ghost use Rattle.std.specs.Prelude.{◌≡◌, ◌≤◌, ◌<◌, ◌+◌, ◌*
 ghost use Rattle.card_app.specs.SeenIcc.{IccOn, IccOff, icc_is_powered as icc_on};
 ghost use Rattle.card_pages.specs.Pages.{found_of};
 ghost use Rattle.risk_mgmt.specs.Counters.{get_data};
-ghost use Rattle.scenario.specs.Cards.{CardData};
-ghost use Rattle.scenario.specs.Seen.{image_of, canned_of, seen_card, seen_cards};
+ghost use Rattle.scenario_plan.specs.Cards.{CardData};
+ghost use Rattle.scenario_plan.specs.SeenCards.{image_of, canned_of, seen_card, seen_cards};
 ghost use Rattle.txn_replay.specs.Audited.{audit_question, question_check, question_command, step_check, RowRests, IsAuditAsked, IsChecked};
 ghost use Rattle.txn_replay.specs.Lines.{audit_power_line};
 ghost use Rattle.txn_replay.specs.SameIcc.{KeepsIcc};
@@ -20,7 +20,7 @@ use app_select::{FIRST_OCCURRENCE, write_select};
 use card_app::Icc;
 use card_files::AppImage;
 use emv_ports::Pages;
-use scenario::NamedCard;
+use scenario_plan::NamedCard;
 
 /// What the audit asks of an application.
 #[derive(Clone, Copy)]

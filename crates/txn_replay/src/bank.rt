@@ -3,16 +3,16 @@ ghost use Rattle.std.specs.Prelude.{◌≡◌, ◌≤◌, ◌<◌, ◌+◌, ◌-
 ghost use Rattle.std.specs.List.{All};
 ghost use Rattle.std.specs.Vec.{vec_len, vec_capacity};
 ghost use Rattle.emv_ports.specs.Memory.{Memory, IsBlank};
-ghost use Rattle.scenario.specs.CardRules.{IsKind};
-ghost use Rattle.scenario.specs.Seen.{seen_cards};
+ghost use Rattle.scenario_plan.specs.Cards.{IsKind};
+ghost use Rattle.scenario_plan.specs.SeenCards.{seen_cards};
 ghost use Rattle.scenario_lanes.specs.Plan.{HaveRoom};
 ghost use Rattle.txn_replay.specs.Banked.{HasRoomFor, StaysBlank, AreNew, AreGiven, IsNewStore, AreNewStores, StoresAreGiven, IsStoreGiven, stores_in, with_pages, with_stores};
 
 use crate::run_card::RunCard;
 use capture_store::LaneStore;
 use emv_ports::Pages;
-use scenario::NamedCard;
 use scenario_lanes::{LAST_PAGES, Lane as Terminal};
+use scenario_plan::NamedCard;
 
 /// Each card takes the first pages of the bank that no card has. One with applications is personalised on
 /// them; those of one of canned answers stay as they are.

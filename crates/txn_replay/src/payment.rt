@@ -3,8 +3,8 @@ ghost use Rattle.std.proofs.Props.{props};
 ghost use Rattle.txn_replay.specs.PaymentFits.{PaymentFits};
 
 use emv_dict::Settings;
-use scenario::NamedCard;
 use scenario_lanes::Planned;
+use scenario_plan::NamedCard;
 
 /// How often a settlement message is sent, the lane's index, whether it speaks ISO 8583 with the host and whether
 /// it keeps its captures durably, its terminal's settings, what is planned, and the card.

@@ -1,11 +1,11 @@
 //! The purchases of a scenario's lanes.
 ghost use Rattle.std.specs.Prelude.{◌≡◌, ◌<◌, length, option_map, IfSome};
-ghost use Rattle.scenario.specs.Plan.{IsScenario};
+ghost use Rattle.scenario_plan.specs.Plan.{IsScenario};
 ghost use Rattle.txn_replay.specs.Payment.{payment_in, dialect_of, durable_of};
 ghost use Rattle.txn_replay.specs.Standing.{seen_payment};
 
 use crate::payment::Payment;
-use scenario::Scenario;
+use scenario_plan::Scenario;
 
 /// The lane's purchase of this number, from 0, where it has one.
 pub(crate) fn payment_at(scenario: &Scenario, lane: usize, number: u32) -> Option<Payment<'_>>

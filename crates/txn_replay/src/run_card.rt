@@ -4,9 +4,8 @@ ghost use Rattle.card_state.specs.Decisions.{Decided};
 ghost use Rattle.emv_ports.specs.Cut.{is_plan};
 ghost use Rattle.emv_ports.specs.Memory.{IsBlank};
 ghost use Rattle.emv_ports.specs.declared.tear.Tear.{Tear as Plan};
-ghost use Rattle.scenario.specs.CardRules.{IsKind};
-ghost use Rattle.scenario.specs.Cards.{CardData};
-ghost use Rattle.scenario.specs.Seen.{seen_card};
+ghost use Rattle.scenario_plan.specs.Cards.{IsKind, CardData};
+ghost use Rattle.scenario_plan.specs.SeenCards.{seen_card};
 ghost use Rattle.txn_replay.specs.Banked.{IsNew, IsRunCardLeft};
 ghost use Rattle.txn_replay.specs.Called.{IsPowered, IsLost, IsCommandAnswered, IsCardGone, powered_line, no_answer_lines};
 ghost use Rattle.txn_replay.specs.RunCard.{RunCardOn, RunCardOff, IsRunCardOf, HasLost, run_card_is_powered as has_power};
@@ -18,7 +17,7 @@ use arrayvec::ArrayVec;
 use ber_tlv::append;
 use card_app::Icc;
 use emv_ports::{Gone, Pages, Tear};
-use scenario::{CardKind, NamedCard};
+use scenario_plan::{CardKind, NamedCard};
 use std::marker::Model;
 
 /// A card of canned answers, and the pages at its place, which are never used.

@@ -6,7 +6,7 @@ ghost use Rattle.auth_message.specs.Whole.{IsMessage};
 ghost use Rattle.capture_store.specs.SeenLaneStore.{LaneStoreOn, LaneStoreOff, IsLaneStoreOff, store_losses};
 ghost use Rattle.capture_store.specs.StoreRow.{StoreRow, opened_to_settle};
 ghost use Rattle.issuer_host.specs.History.{HostStands, host_reply, is_new_message};
-ghost use Rattle.scenario.specs.Plan.{IsScenario};
+ghost use Rattle.scenario_plan.specs.Plan.{IsScenario};
 ghost use Rattle.txn_replay.specs.Lines.{settle_lines};
 ghost use Rattle.txn_replay.specs.Payment.{durable_of};
 ghost use Rattle.txn_replay.specs.Standing.{KeepsIssuer};
@@ -23,8 +23,8 @@ use capture_store::LaneStore;
 use emv_ports::Pages;
 use host_link::{Wire, deliver};
 use issuer_host::Host;
-use scenario::Scenario;
 use scenario_lanes::Link;
+use scenario_plan::Scenario;
 use std::alloc::AllocError;
 
 /// A step of the settlement.

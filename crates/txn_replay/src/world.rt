@@ -1,14 +1,15 @@
 //! A whole run, an event at a time.
-ghost use Rattle.std.specs.Prelude.{◌≡◌, ◌≤◌, ◌<◌, ◌+◌, [], true, false, length, map, slice_get, option_map, Option, Some, None, IfOk, IfErr, OnOk, OnErr};
+ghost use Rattle.std.specs.Prelude.{◌≡◌, ◌≤◌, ◌<◌, ◌+◌, [], true, false, length, map, slice_get, option_map, vec_len, Option, Some, None, IfOk, IfErr, IfSome, OnOk, OnErr};
 ghost use Rattle.std.specs.List.{All};
 ghost use Rattle.std.specs.Vec.{vec_capacity};
 ghost use Rattle.emv_ports.specs.Memory.{IsBlank};
 ghost use Rattle.issuer_host.specs.History.{balance_after};
-ghost use Rattle.scenario.specs.Plan.{IsScenario};
+ghost use Rattle.scenario_plan.specs.Plan.{IsScenario};
+ghost use Rattle.txn_replay.specs.Banked.{HasRoomFor};
 ghost use Rattle.txn_replay.specs.Reading.{data_at, ending_at};
 ghost use Rattle.txn_replay.specs.Respelled.{AreMessages};
 ghost use Rattle.txn_replay.specs.Run.{all_over, ended_count};
-ghost use Rattle.txn_replay.specs.Seen.{WorldSeen, WorldStands, IsUnmoved, EventHasLed, BankStands, IsSettling, IsNext, is_done, turns_left};
+ghost use Rattle.txn_replay.specs.Seen.{HasOpened, IsNewLane, WorldSeen, WorldStands, IsUnmoved, EventHasLed, BankStands, IsSettling, IsNext, is_done, turns_left};
 ghost use Rattle.txn_replay.specs.Sound.{IsIdle};
 ghost use Rattle.txn_replay.specs.Steps.{Settlement, Check, settlements, checks};
 ghost use Rattle.txn_replay.specs.Stored.{IsSettledTo};
@@ -29,7 +30,7 @@ use emv_ports::Pages;
 use issuer_host::{Host, HostKeys};
 use kernel::Tally;
 use object_lists::CardData;
-use scenario::Scenario;
+use scenario_plan::Scenario;
 use std::alloc::{AllocError, Global};
 use std::marker::Model;
 
@@ -96,23 +97,18 @@ impl<'s, P: Pages> World<'s, P> {
         ensures scenario { IfOk result (λ world. world.scenario ≡ scenario.now) }
         ensures back { IfErr result (λ no. no.bank ≡ bank) }
     {
-        let keys = keys_of(&scenario.issuer);
-        let Ok(host) = Host::new(alloc, keys, scenario.accounts.as_slice()) else {
+        let Some(parts) = parts_of(alloc, scenario) else {
             return Err(NoWorld { bank });
         };
-        let Ok(lanes) = new_lanes(alloc, scenario.lanes.len()) else {
-            return Err(NoWorld { bank });
-        };
-        let Ok(mut lane_stores) = Vec::with_capacity(alloc, scenario.lanes.len()) else {
-            return Err(NoWorld { bank });
-        };
-        let cards = scenario.cards.as_slice();
-        let Ok(mut run_cards) = Vec::with_capacity(alloc, cards.len()) else {
-            return Err(NoWorld { bank });
-        };
+        let Parts {
+            host,
+            lanes,
+            mut lane_stores,
+            mut run_cards,
+        } = parts;
         let mut spare = bank;
         take_stores(scenario.lanes.as_slice(), &mut spare, &mut lane_stores);
-        take_pages(cards, &mut spare, &mut run_cards);
+        take_pages(scenario.cards.as_slice(), &mut spare, &mut run_cards);
         Ok(World {
             scenario,
             run_cards,
@@ -310,14 +306,47 @@ impl<'s, P: Pages> World<'s, P> {
     }
 }
 
-/// The issuer's keys once more.
-fn keys_of(keys: &HostKeys) -> HostKeys
-    ensures { result ≡ keys.now }
+/// What a run takes memory for as it begins: its host, its lanes, and room for their stores and for the cards.
+#[derive(Drop)]
+struct Parts<'s, P: Pages> {
+    host: Host<'s>,
+    lanes: Vec<Lane<'s>>,
+    lane_stores: Vec<LaneStore<P>>,
+    run_cards: Vec<RunCard<'s, P>>,
+}
+
+/// The parts of a scenario's run, or `None` where there is no memory for them.
+fn parts_of<'s, P: Pages>(alloc: Global, scenario: &'s Scenario) -> Option<Parts<'s, P>>
+    requires scenario { IsScenario scenario.now }
+    ensures host { IfSome result (λ parts. HasOpened scenario.now parts.host) }
+    ensures count { IfSome result (λ parts. vec_len parts.lanes ≡ length scenario.now.lanes) }
+    ensures new { IfSome result (λ parts. All IsNewLane parts.lanes.items) }
+    ensures stores { IfSome result (λ parts. HasRoomFor (length scenario.now.lanes) parts.lane_stores.items (vec_capacity parts.lane_stores)) }
+    ensures cards { IfSome result (λ parts. HasRoomFor (length scenario.now.cards) parts.run_cards.items (vec_capacity parts.run_cards)) }
 {
-    HostKeys {
-        ac: keys.ac.copy(),
-        mac: keys.mac.copy(),
-        enc: keys.enc.copy(),
-        pin: keys.pin.copy(),
-    }
+    let issuer = &scenario.issuer;
+    let keys = HostKeys {
+        ac: issuer.ac.copy(),
+        mac: issuer.mac.copy(),
+        enc: issuer.enc.copy(),
+        pin: issuer.pin.copy(),
+    };
+    let Ok(host) = Host::new(alloc, keys, scenario.accounts.as_slice()) else {
+        return None;
+    };
+    let Ok(lanes) = new_lanes(alloc, scenario.lanes.len()) else {
+        return None;
+    };
+    let Ok(lane_stores) = Vec::with_capacity(alloc, scenario.lanes.len()) else {
+        return None;
+    };
+    let Ok(run_cards) = Vec::with_capacity(alloc, scenario.cards.len()) else {
+        return None;
+    };
+    Some(Parts {
+        host,
+        lanes,
+        lane_stores,
+        run_cards,
+    })
 }

@@ -34,7 +34,7 @@ def copied():
 
 
 # Crates of documents and lanes, of which the programs at lines read a part alone.
-OF_DOCUMENTS = ("scenario", "scenario_fields", "scenario_lanes", "report_text")
+OF_DOCUMENTS = ("scenario", "scenario_fields", "scenario_lanes", "scenario_plan", "report_text")
 
 
 def program_of(place):

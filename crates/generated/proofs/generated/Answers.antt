@@ -1,4 +1,4 @@
-use Rattle.scenario.specs.Seen.{seen_cards}
+use Rattle.scenario_plan.specs.SeenCards.{seen_cards}
 use Rattle.generated.proofs.Kept.{made_rules, made_no_choices}
 use Rattle.generated.proofs.generated.Goals as goal
 

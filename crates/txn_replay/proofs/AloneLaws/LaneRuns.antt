@@ -6,7 +6,7 @@ use Rattle.std.proofs.lemmas.Bool.{eq-eqb, cases_eq}
 use Rattle.std.proofs.lemmas.Option.{same_Some}
 use Rattle.std.proofs.lemmas.Slice.Eq.{bytes_eq-Decides}
 use Rattle.host_histories.specs.Apart.{pan_carried, own_accounts}
-use Rattle.scenario.specs.Cards.{CardData}
+use Rattle.scenario_plan.specs.Cards.{CardData}
 use Rattle.txn_replay.specs.Alone.{names_card, is_card_of, before_own, cards_alone, lanes_alone, alone}
 use Rattle.txn_replay.specs.Choices.{IsSameRun}
 use Rattle.txn_replay.specs.Run.{account_lines}

@@ -6,7 +6,7 @@ use Rattle.std.proofs.lemmas.Bool.{eqb-true, eq-eqb}
 use Rattle.host_histories.specs.Apart.{StandApart}
 use Rattle.host_histories.proofs.Apart.{stand_apart}
 use Rattle.report_text.specs.declared.line.Line.{Line}
-use Rattle.scenario.specs.Plan.{ScenarioData, IsScenario}
+use Rattle.scenario_plan.specs.Plan.{ScenarioData, IsScenario}
 use Rattle.txn_replay.specs.Alone.{is_card_of, alone, HasOwnNumbers, PartsAgree, is_own}
 use Rattle.txn_replay.specs.StandAlone.{IsApart, is_step_of, is_check_of, Follows, LeavesLane, ComesBy, StepsComeApart}
 use Rattle.txn_replay.specs.Steps.{After, Settlement, Opens, Sends, Check, settlements, settles, checks, audits, happens, Step}

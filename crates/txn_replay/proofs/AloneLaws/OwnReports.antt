@@ -9,7 +9,7 @@ use Rattle.issuer_host.specs.Account.{AccountData}
 use Rattle.issuer_host.specs.History.{balance_after}
 use Rattle.report_text.specs.declared.line.Line.{Line}
 use Rattle.report_text.specs.declared.line.Line.TheVariants.{Done}
-use Rattle.scenario.specs.Plan.{ScenarioData}
+use Rattle.scenario_plan.specs.Plan.{ScenarioData}
 use Rattle.txn_replay.specs.Alone.{alone, PartsAgree, is_own}
 use Rattle.txn_replay.specs.Run.{Finished, balance_line, account_lines, ended_count, closing}
 use Rattle.txn_replay.specs.StandAlone.{LanesStandAlone, run_choices}

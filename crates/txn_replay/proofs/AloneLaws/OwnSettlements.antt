@@ -7,7 +7,7 @@ use Rattle.std.proofs.lemmas.Option.{slice_get_past}
 use Rattle.capture_store.specs.StoreRow.{StoreRow, opened_to_settle}
 use Rattle.host_histories.specs.Apart.{own_messages, StandApart}
 use Rattle.issuer_host.specs.History.{host_reply}
-use Rattle.scenario.specs.Plan.{ScenarioData}
+use Rattle.scenario_plan.specs.Plan.{ScenarioData}
 use Rattle.txn_replay.specs.Alone.{alone, CarriesPan, HasOwnNumbers, PartsAgree, is_own}
 use Rattle.txn_replay.specs.Lines.{settle_lines}
 use Rattle.txn_replay.specs.Payment.{dialect_of, durable_of}

@@ -5,9 +5,9 @@ use Rattle.std.specs.Prelude.{IfSome}
 use Rattle.std.proofs.lemmas.List.{length-set}
 use Rattle.std.proofs.lemmas.Option.{slice_get_within}
 use Rattle.report_text.specs.declared.line.Line.{Line}
-use Rattle.scenario.specs.Cards.{CardData}
-use Rattle.scenario.specs.Seen.{seen_card, seen_cards}
-use Rattle.scenario.specs.declared.plan.NamedCard.{NamedCard}
+use Rattle.scenario_plan.specs.Cards.{CardData}
+use Rattle.scenario_plan.specs.SeenCards.{seen_card, seen_cards}
+use Rattle.scenario_plan.specs.declared.plan.NamedCard.{NamedCard}
 use Rattle.txn_replay.specs.Audited.{step_check, RowRests, IsChecked}
 use Rattle.txn_replay.specs.Run.{all_over}
 use Rattle.txn_replay.specs.Seen.{WorldSeen, WorldStands, EventHasLed, IsNext, IsWorldWhole, is_done}

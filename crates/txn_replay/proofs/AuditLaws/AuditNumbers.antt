@@ -5,9 +5,9 @@ use Rattle.std.specs.List.{flat_map}
 use Rattle.std.specs.Prelude.{option_map}
 use Rattle.std.proofs.lemmas.Option.{slice_get-map}
 use Rattle.card_files.specs.Views.{AppData}
-use Rattle.scenario.specs.Cards.{CardData}
-use Rattle.scenario.specs.Seen.{image_of, canned_of, seen_card, seen_cards}
-use Rattle.scenario.specs.declared.plan.NamedCard.{NamedCard}
+use Rattle.scenario_plan.specs.Cards.{CardData}
+use Rattle.scenario_plan.specs.SeenCards.{image_of, canned_of, seen_card, seen_cards}
+use Rattle.scenario_plan.specs.declared.plan.NamedCard.{NamedCard}
 use Rattle.txn_replay.specs.Audited.{audit_question}
 use Rattle.txn_replay.specs.Steps.{Check, PowersUp, app_checks, checks_for, card_checks, checks_from}
 use Rattle.txn_replay.proofs.RunLaws.FewEvents.{asks_length}

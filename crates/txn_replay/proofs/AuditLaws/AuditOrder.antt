@@ -2,7 +2,7 @@
 -- So a card that is asked was turned on by the step before it.
 use Rattle.std.proofs.Common.{◌≡◌, ◌⊎◌, ℕ, ◌+◌, ◌-◌, ◌≤◌, ◌<◌, List, [], ◌∷◌, ◌++◌, length, slice_get, Option, Some, None, sym, ap, ◌∙◌, inl, inr, arith}
 use Rattle.std.proofs.lemmas.Bool.{cases_lt}
-use Rattle.scenario.specs.Cards.{CardData}
+use Rattle.scenario_plan.specs.Cards.{CardData}
 use Rattle.txn_replay.specs.Steps.{Check, PowersUp, Asks, checks_for, card_checks, checks_from}
 use Rattle.txn_replay.proofs.AuditLaws.AuditSteps.{IsCheckOf, card_check_of}
 use Rattle.txn_replay.proofs.Lists.{append_second, found_first}

@@ -7,8 +7,8 @@ use Rattle.app_select.specs.Said.{select_command}
 use Rattle.apdu_core.specs.Command.{command_of}
 use Rattle.card_files.specs.Views.{AppData}
 use Rattle.risk_mgmt.specs.Counters.{counter_tag, last_online_tag, get_data}
-use Rattle.scenario.specs.Cards.{CardData}
-use Rattle.scenario.specs.Plan.{ScenarioData}
+use Rattle.scenario_plan.specs.Cards.{CardData}
+use Rattle.scenario_plan.specs.Plan.{ScenarioData}
 use Rattle.txn_replay.specs.Changes.{is_generate}
 use Rattle.txn_replay.specs.Steps.{Check, PowersUp, Asks, app_checks, checks_for, card_checks, checks_from, checks}
 use Rattle.txn_replay.proofs.Lists.{append_at}

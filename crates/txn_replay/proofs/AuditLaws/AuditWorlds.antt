@@ -4,9 +4,8 @@ use Rattle.std.proofs.Common.{◌≡◌, ℕ, ◌+◌, ◌≤◌, ◌<◌, Bool,
 use Rattle.std.specs.Prelude.{IfSome}
 use Rattle.std.proofs.lemmas.Option.{same_Some, slice_get_within, get_or_from_slice_get}
 use Rattle.report_text.specs.declared.line.Line.{Line}
-use Rattle.scenario.specs.CardRules.{IsCard}
-use Rattle.scenario.specs.Cards.{CardData}
-use Rattle.scenario.specs.Plan.{ScenarioData, IsScenario}
+use Rattle.scenario_plan.specs.Cards.{IsCard, CardData}
+use Rattle.scenario_plan.specs.Plan.{ScenarioData, IsScenario}
 use Rattle.txn_replay.specs.Audited.{question_command, check_by, checked_row, IsChecked, RowRests}
 use Rattle.txn_replay.specs.Run.{lane_over, all_over}
 use Rattle.txn_replay.specs.Seen.{WorldSeen, RunCardStands, WorldStands, EventHasLed, IsNext, plan_for}

@@ -9,10 +9,10 @@ use Rattle.card_files.specs.Views.{ImageData}
 use Rattle.card_pages.specs.Cuts.{cut_of, behind_one}
 use Rattle.card_state.specs.Decisions.{Decided}
 use Rattle.report_text.specs.declared.line.Line.{Line}
-use Rattle.scenario.specs.Cards.{CardData}
-use Rattle.scenario.specs.Seen.{image_of, canned_of, image_there}
-use Rattle.scenario.specs.declared.plan.CardKind.{CardKind}
-use Rattle.scenario.specs.declared.plan.CardKind.TheVariants.{App, Canned}
+use Rattle.scenario_plan.specs.Cards.{CardData}
+use Rattle.scenario_plan.specs.SeenCards.{image_of, canned_of, image_there}
+use Rattle.scenario_plan.specs.declared.plan.CardKind.{CardKind}
+use Rattle.scenario_plan.specs.declared.plan.CardKind.TheVariants.{App, Canned}
 use Rattle.txn_replay.specs.Audited.{IsAuditAsked, IsChecked, RowRests}
 use Rattle.txn_replay.specs.Lines.{audit_lines}
 use Rattle.txn_replay.specs.RunCard.{RunCardSeen, OfApps}

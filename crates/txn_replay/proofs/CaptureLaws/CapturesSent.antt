@@ -20,7 +20,7 @@ use Rattle.kernel.specs.Ended.{EndData}
 use Rattle.kernel.specs.Reply.{Reply}
 use Rattle.report_text.specs.declared.line.Line.{Line}
 use Rattle.report_text.specs.declared.line.Line.TheVariants.{EndLost, Done}
-use Rattle.scenario.specs.Plan.{ScenarioData}
+use Rattle.scenario_plan.specs.Plan.{ScenarioData}
 use Rattle.txn_replay.specs.Captured.{AreAmong, none_came, IsUntorn, captured_by, caught_of, caught_in, settled_told, all_settled_told, IsDelivered, CapturesAreSent}
 use Rattle.txn_replay.specs.Lines.{host_lines, settle_lines, outcome_line}
 use Rattle.txn_replay.specs.Part.{Part, Moved, loses_by, loses, lane_ended}

@@ -11,7 +11,7 @@ use Rattle.card_pages.specs.Cuts.{cut_of}
 use Rattle.card_state.specs.Decisions.{Decided}
 use Rattle.emv_ports.specs.Causes.{one_more}
 use Rattle.emv_ports.specs.declared.tear.Tear.{Tear}
-use Rattle.scenario.specs.Cards.{CardData}
+use Rattle.scenario_plan.specs.Cards.{CardData}
 use Rattle.torn_store.proofs.Outcomes.{on_ok_two}
 use Rattle.txn_replay.specs.Called.{AnswerIs, answered_row, IsCommandAnswered, IsCardGone}
 use Rattle.txn_replay.specs.Counting.{capped_at_64}

@@ -15,7 +15,7 @@ use Rattle.card_state.proofs.Decoded.{decoded-encoding, decoded_one-encoding_one
 use Rattle.emv_ports.specs.Memory.{Memory}
 use Rattle.emv_ports.specs.PageReading.{Reading}
 use Rattle.txn_replay.specs.PagesTell.{PagesTellTotals}
-use Rattle.scenario.specs.Cards.{CardData}
+use Rattle.scenario_plan.specs.Cards.{CardData}
 use Rattle.torn_store.proofs.Readings.{some_page}
 use Rattle.txn_replay.specs.Seen.{PagesStand, PagesAre}
 use Rattle.txn_replay.specs.World.{CardRow, card_at}

@@ -10,7 +10,7 @@ use Rattle.kernel.specs.Kernel.{KernelData, KernelStands, outset_in}
 use Rattle.kernel.specs.Reply.{Reply, CardSaid, CardGone}
 use Rattle.kernel.specs.Tally.{Counts, raised}
 use Rattle.report_text.specs.declared.line.Line.{Line}
-use Rattle.scenario.specs.Cards.{CardData}
+use Rattle.scenario_plan.specs.Cards.{CardData}
 use Rattle.txn_replay.specs.Called.{AnswerIs, answered_row, IsCommandAnswered, IsCardGone, no_answer_lines}
 use Rattle.txn_replay.specs.Changes.{exchanged, row_torn}
 use Rattle.txn_replay.specs.Lines.{answer_lines, torn_lines, gone_lines, outcome_line}

@@ -5,7 +5,7 @@ use Rattle.std.specs.Prelude.{is_none}
 use Rattle.std.proofs.lemmas.List.{length-set}
 use Rattle.capture_store.specs.StoreRow.{new_store, opened_to_settle}
 use Rattle.card_state.specs.Decisions.{Decided}
-use Rattle.scenario.specs.Plan.{ScenarioData}
+use Rattle.scenario_plan.specs.Plan.{ScenarioData}
 use Rattle.txn_replay.specs.Payment.{payment_in}
 use Rattle.txn_replay.specs.Run.{lane_over, all_below, all_over}
 use Rattle.txn_replay.specs.Steps.{Settlement, Opens, Sends, Check, PowersUp, Asks, lane_settled, choice_in, settles, audits}

@@ -20,7 +20,7 @@ use Rattle.kernel.specs.Reply.{Reply, CardSaid, CardGone, from_host, Deed, ToHos
 use Rattle.kernel.specs.Reply.{ToCard as asks_card}
 use Rattle.report_text.specs.declared.line.Line.{Line}
 use Rattle.report_text.specs.declared.line.Line.TheVariants.{ToCard, FromCard, Torn, Gone, EndLost, Done}
-use Rattle.scenario.specs.Plan.{ScenarioData}
+use Rattle.scenario_plan.specs.Plan.{ScenarioData}
 use Rattle.txn_replay.specs.Asking.{AnswersBy, IsAnswerTold, AsksCommand, IsAskedAt, AreAsked, RunsAsk, WholeRunsAsk}
 use Rattle.txn_replay.specs.Changes.{exchanged, told_once, row_torn, lost}
 use Rattle.txn_replay.specs.Lines.{power_line, power_canned_line, power_torn_line, host_lines, settle_lines, outcome_line}

@@ -13,7 +13,7 @@ use Rattle.kernel.specs.Ended.{EndData}
 use Rattle.kernel.specs.Reply.{Reply}
 use Rattle.report_text.specs.declared.line.Line.{Line}
 use Rattle.report_text.specs.declared.line.Line.TheVariants.{EndLost, Done}
-use Rattle.scenario.specs.Plan.{ScenarioData}
+use Rattle.scenario_plan.specs.Plan.{ScenarioData}
 use Rattle.txn_replay.specs.Captured.{is_lost_line, LostAreTold, WholeRunsTellLost}
 use Rattle.txn_replay.specs.Counting.{lost_count}
 use Rattle.txn_replay.specs.Lines.{host_lines, settle_lines, outcome_line}

@@ -13,7 +13,7 @@ use Rattle.kernel.specs.Ended.{EndData}
 use Rattle.kernel.specs.Reply.{Reply}
 use Rattle.report_text.specs.declared.line.Line.{Line}
 use Rattle.report_text.specs.declared.line.Line.TheVariants.{EndLost}
-use Rattle.scenario.specs.Plan.{ScenarioData}
+use Rattle.scenario_plan.specs.Plan.{ScenarioData}
 use Rattle.txn_replay.specs.Lines.{host_lines, settle_lines, end_line, outcome_line}
 use Rattle.txn_replay.specs.Part.{Part, Moved, loses, lane_ended}
 use Rattle.txn_replay.specs.Payment.{Payment, dialect_of, next_of}

@@ -17,8 +17,8 @@ use Rattle.report_text.specs.Told.{card_named, IsCardName}
 use Rattle.report_text.specs.declared.line.Line.{Line}
 use Rattle.report_text.specs.declared.line.Line.TheVariants.{EndLost, Done}
 use Rattle.risk_mgmt.specs.Counters.{counter_tag, last_online_tag, get_data}
-use Rattle.scenario.specs.Cards.{CardData}
-use Rattle.scenario.specs.Plan.{ScenarioData, IsScenario, HasPlainName}
+use Rattle.scenario_plan.specs.Cards.{CardData}
+use Rattle.scenario_plan.specs.Plan.{ScenarioData, IsScenario, HasPlainName}
 use Rattle.scenario_fields.specs.Value.{is_one_of}
 use Rattle.scenario_fields.specs.declared.spot.Characters.TheVariants.{LowercaseOrDigit}
 use Rattle.txn_replay.specs.Lines.{host_lines, settle_lines, outcome_line}

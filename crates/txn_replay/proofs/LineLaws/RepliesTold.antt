@@ -17,7 +17,7 @@ use Rattle.kernel.specs.Kernel.{deed_bytes, told_bytes}
 use Rattle.kernel.specs.Reply.{Reply, CardSaid, CardGone, from_host}
 use Rattle.report_text.specs.declared.line.Line.{Line}
 use Rattle.report_text.specs.declared.line.Line.TheVariants.{EndLost}
-use Rattle.scenario.specs.Plan.{ScenarioData}
+use Rattle.scenario_plan.specs.Plan.{ScenarioData}
 use Rattle.txn_replay.specs.Lines.{host_lines, settle_lines, audit_power_line, audit_lines, outcome_line}
 use Rattle.txn_replay.specs.Changes.{freed}
 use Rattle.txn_replay.specs.Part.{Part, Moved, loses, lane_ended}

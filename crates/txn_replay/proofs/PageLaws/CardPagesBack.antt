@@ -11,7 +11,7 @@ use Rattle.std.proofs.lemmas.Option.{same_Some, slice_get_within}
 use Rattle.capture_store.specs.SeenLaneStore.{LaneStoreSeen, LaneStoreOff}
 use Rattle.capture_store.specs.StoreRow.{new_store}
 use Rattle.emv_ports.specs.Memory.{Memory, IsBlank}
-use Rattle.scenario.specs.Cards.{CardData}
+use Rattle.scenario_plan.specs.Cards.{CardData}
 use Rattle.scenario_lanes.specs.Plan.{LaneData}
 use Rattle.txn_replay.specs.Banked.{IsNew, AreNew, IsNewStore, AreNewStores, stores_in, IsRunCardLeft, AreGiven, IsStoreLeft, IsStoreGiven, StoresAreGiven}
 use Rattle.txn_replay.specs.RunCard.{RunCardSeen}

@@ -13,7 +13,7 @@ use Rattle.capture_store.specs.ListPages.{MayStandForList}
 use Rattle.capture_store.specs.SeenLaneStore.{LaneStoreSeen, LaneStoreOn}
 use Rattle.emv_ports.specs.Memory.{Memory, IsBlank}
 use Rattle.emv_ports.specs.declared.tear.Tear.{Tear}
-use Rattle.scenario.specs.Plan.{ScenarioData}
+use Rattle.scenario_plan.specs.Plan.{ScenarioData}
 use Rattle.scenario_lanes.specs.Plan.{LaneData, last_pages, HaveRoom}
 use Rattle.txn_replay.specs.Banked.{AreGiven, stores_in, IsStoreLeft, IsStoreGiven, StoresAreGiven, with_stores}
 use Rattle.txn_replay.specs.Payment.{payment_in, is_durable, durable_of}

@@ -2,8 +2,8 @@
 -- An event of the definitions is told with its lines, its truth values and the world behind it.
 use Rattle.std.proofs.Common.{◌≡◌, Bool, List, length, sym, ap, ◌∙◌, inl, inr}
 use Rattle.report_text.specs.declared.line.Line.{Line}
-use Rattle.scenario.specs.Cards.{CardData}
-use Rattle.scenario.specs.Plan.{ScenarioData}
+use Rattle.scenario_plan.specs.Cards.{CardData}
+use Rattle.scenario_plan.specs.Plan.{ScenarioData}
 use Rattle.txn_replay.specs.Seen.{WorldSeen, RunCardStands, WorldStands, EventHasLed}
 use Rattle.txn_replay.specs.RunCard.{RunCardSeen}
 use Rattle.txn_replay.specs.Steps.{After, happens, Step}

@@ -5,8 +5,8 @@ use Rattle.std.proofs.lemmas.Option.{slice_get_within, get_or_from_slice_get}
 use Rattle.card_files.specs.Views.{ImageData}
 use Rattle.host_histories.specs.BookedOnce.{BookedOnce}
 use Rattle.report_text.specs.declared.line.Line.{Line}
-use Rattle.scenario.specs.Cards.{CardData}
-use Rattle.scenario.specs.Plan.{ScenarioData, IsScenario}
+use Rattle.scenario_plan.specs.Cards.{CardData}
+use Rattle.scenario_plan.specs.Plan.{ScenarioData, IsScenario}
 use Rattle.txn_replay.specs.Bounds.{IsFew}
 use Rattle.txn_replay.specs.Laws.{IsFair}
 use Rattle.txn_replay.specs.Run.{RunPlace, Finished, Reached, Run}

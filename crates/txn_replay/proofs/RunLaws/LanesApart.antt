@@ -2,7 +2,7 @@
 -- So a lane's exchange never reaches into another lane: the law `LanesStayApart`.
 use Rattle.std.proofs.Common.{◌≡◌, ℕ, Bool, List, Option, Some, None, refl}
 use Rattle.std.proofs.lemmas.List.{get_or-set_other}
-use Rattle.scenario.specs.Plan.{ScenarioData}
+use Rattle.scenario_plan.specs.Plan.{ScenarioData}
 use Rattle.txn_replay.specs.Laws.{LeavesOthers}
 use Rattle.txn_replay.specs.Payment.{Payment, next_of}
 use Rattle.txn_replay.specs.Steps.{part_of, choice_in, turned_by, happens}

@@ -15,8 +15,8 @@ use Rattle.emv_ports.specs.declared.tear.TearAt.{TearAt}
 use Rattle.emv_ports.specs.declared.tear.TearAt.TheVariants.{Before, Within, Release}
 use Rattle.kernel.specs.Reply.{Reply}
 use Rattle.report_text.specs.declared.line.Line.{Line}
-use Rattle.scenario.specs.Cards.{CardData}
-use Rattle.scenario.specs.Plan.{ScenarioData}
+use Rattle.scenario_plan.specs.Cards.{CardData}
+use Rattle.scenario_plan.specs.Plan.{ScenarioData}
 use Rattle.txn_replay.specs.Changes.{powered}
 use Rattle.txn_replay.specs.Choices.{leaves_open, leaves_choice, HasNoChoice, LeavesNone, IsClosed, NoneIsOpen, IsSameRun, RunIsOne}
 use Rattle.txn_replay.specs.Lines.{audit_power_line}

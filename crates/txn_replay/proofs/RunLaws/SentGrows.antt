@@ -8,7 +8,7 @@ use Rattle.auth_message.specs.Whole.{IsMessage}
 use Rattle.capture_store.specs.StoreRow.{opened_to_add, opened_to_settle}
 use Rattle.kernel.specs.Reply.{Reply}
 use Rattle.report_text.specs.declared.line.Line.{Line}
-use Rattle.scenario.specs.Plan.{ScenarioData}
+use Rattle.scenario_plan.specs.Plan.{ScenarioData}
 use Rattle.txn_replay.specs.Part.{Part, Moved}
 use Rattle.txn_replay.specs.Payment.{Payment, next_of}
 use Rattle.txn_replay.specs.Respelled.{AreMessages}

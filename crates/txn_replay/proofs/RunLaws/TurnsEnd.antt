@@ -5,7 +5,7 @@ use Rattle.std.proofs.lemmas.Bool.{and_from, cases_eq}
 use Rattle.std.proofs.lemmas.List.{set-get_or}
 use Rattle.kernel.specs.Reply.{Reply}
 use Rattle.report_text.specs.declared.line.Line.{Line}
-use Rattle.scenario.specs.Plan.{ScenarioData}
+use Rattle.scenario_plan.specs.Plan.{ScenarioData}
 use Rattle.std.specs.Prelude.{is_none}
 use Rattle.txn_replay.specs.Part.{Part, Moved, still, purchase_begun, piece_by, piece}
 use Rattle.txn_replay.specs.Storing.{free_by, runs_by, before_by, moved_behind, lane_piece}

@@ -19,8 +19,8 @@ use Rattle.pse_directory.specs.Directory.{selecting_by}
 use Rattle.report_text.specs.declared.line.EndParts.{EndParts}
 use Rattle.report_text.specs.declared.line.Line.{Line}
 use Rattle.report_text.specs.declared.line.Line.TheVariants.{PowerCanned, PowerTorn, ToCard, Gone, End, EndLost, AuditPower, Done}
-use Rattle.scenario.specs.Cards.{no_image}
-use Rattle.scenario.specs.Plan.{ScenarioData}
+use Rattle.scenario_plan.specs.Cards.{no_image}
+use Rattle.scenario_plan.specs.Plan.{ScenarioData}
 use Rattle.scenario_lanes.specs.declared.plan.Link.TheVariants.{Sound}
 use Rattle.scenario_lanes.specs.declared.plan.Planned.{Planned}
 use Rattle.card_state.specs.Totals.{totals, apps_totals}

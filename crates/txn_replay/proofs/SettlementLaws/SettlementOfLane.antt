@@ -7,7 +7,7 @@ use Rattle.std.proofs.lemmas.Bool.{cases_order}
 use Rattle.std.proofs.lemmas.List.{length-replicate}
 use Rattle.std.proofs.lemmas.Option.{same_Some}
 use Rattle.std.proofs.Math.Nat.{div-eq_of_lt, add-div_left}
-use Rattle.scenario.specs.Plan.{ScenarioData}
+use Rattle.scenario_plan.specs.Plan.{ScenarioData}
 use Rattle.txn_replay.specs.Payment.{durable_of}
 use Rattle.txn_replay.specs.Settling.{steps_of, step_in, IsStep, IsStepOf}
 use Rattle.txn_replay.specs.Standing.{LaneKeeps}

@@ -7,7 +7,7 @@ use Rattle.std.proofs.lemmas.Bool.Decides.{nat_tests}
 use Rattle.std.proofs.lemmas.List.{length-replicate}
 use Rattle.std.proofs.lemmas.Option.{same_Some, get_or_from_slice_get}
 use Rattle.std.proofs.Math.Nat.{add-div_left, add-mod_left, div-eq_of_lt, div_self, mod-eq_of_lt, mod_self}
-use Rattle.scenario.specs.Plan.{ScenarioData}
+use Rattle.scenario_plan.specs.Plan.{ScenarioData}
 use Rattle.txn_replay.specs.Payment.{durable_of}
 use Rattle.txn_replay.specs.Steps.{Settlement, Opens, Sends, dropped_copies, lane_settlements, settlements_from, settlements}
 use Rattle.txn_replay.specs.World.{LaneRow, World, new_lane, lane_at}

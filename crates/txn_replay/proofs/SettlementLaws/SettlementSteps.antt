@@ -4,7 +4,7 @@ use Rattle.std.proofs.Common.{◌≡◌, ℕ, zero, suc, ◌+◌, ◌-◌, ◌<�
 use Rattle.std.specs.List.{flat_map}
 use Rattle.std.specs.Prelude.{unwrap_or}
 use Rattle.std.proofs.lemmas.Option.{same_Some, slice_get_within, get_or_from_slice_get}
-use Rattle.scenario.specs.Plan.{ScenarioData}
+use Rattle.scenario_plan.specs.Plan.{ScenarioData}
 use Rattle.txn_replay.specs.Payment.{durable_of}
 use Rattle.txn_replay.specs.Steps.{Settlement, Opens, Sends, copies_of, dropped_copies, lane_settlements, settlements_from, settlements}
 use Rattle.txn_replay.specs.World.{LaneRow, World, new_lane, lane_at}

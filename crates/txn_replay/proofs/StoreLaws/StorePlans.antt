@@ -6,7 +6,7 @@ use Rattle.capture_store.specs.Calls.{Drops}
 use Rattle.capture_store.specs.SeenLaneStore.{LaneStoreSeen, LaneStoreOn}
 use Rattle.capture_store.specs.StoreRow.{StoreRow, is_next_cut, made_call, cut_call, opened_to_add, ended_by}
 use Rattle.emv_ports.specs.declared.tear.Tear.{Tear}
-use Rattle.scenario.specs.Plan.{ScenarioData}
+use Rattle.scenario_plan.specs.Plan.{ScenarioData}
 use Rattle.txn_replay.specs.Part.{Part, piece}
 use Rattle.txn_replay.specs.Payment.{Payment, payment_in}
 use Rattle.txn_replay.specs.Seen.{terminal_plan, LaneStoreAt}

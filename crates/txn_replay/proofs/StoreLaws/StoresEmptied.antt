@@ -11,7 +11,7 @@ use Rattle.std.proofs.Math.Nat.{zero-div}
 use Rattle.std.proofs.Math.Seq.{take-length}
 use Rattle.capture_store.specs.StoreRow.{StoreRow, new_store, opened_to_settle}
 use Rattle.report_text.specs.declared.line.Line.{Line}
-use Rattle.scenario.specs.Plan.{ScenarioData}
+use Rattle.scenario_plan.specs.Plan.{ScenarioData}
 use Rattle.txn_replay.specs.Part.{Part}
 use Rattle.txn_replay.specs.Payment.{Payment, payment_in, next_of, is_durable, durable_of}
 use Rattle.txn_replay.specs.Run.{RunPlace, Scheduled, Round, Settling, Auditing, Finished, Reached, start, scheduled, rounds, round, again, settlement, settling, audit, auditing, finished, all_over}

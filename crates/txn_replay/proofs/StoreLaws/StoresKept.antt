@@ -9,7 +9,7 @@ use Rattle.capture_store.specs.StoreRow.{StoreRow, new_store, is_next_cut, opene
 use Rattle.emv_ports.specs.declared.tear.Tear.{Tear}
 use Rattle.kernel.specs.Reply.{Reply}
 use Rattle.report_text.specs.declared.line.Line.{Line}
-use Rattle.scenario.specs.Plan.{ScenarioData}
+use Rattle.scenario_plan.specs.Plan.{ScenarioData}
 use Rattle.txn_replay.specs.Part.{Part, lane_ended, piece}
 use Rattle.txn_replay.specs.Payment.{Payment, next_of, durable_of}
 use Rattle.txn_replay.specs.Run.{RunPlace, Settling, Reached, start, scheduled, rounds, round, again, settlement, settling, audit, auditing, finished, all_over}

@@ -9,8 +9,8 @@ use Rattle.emv_ports.specs.declared.tear.Tear.{Tear}
 use Rattle.issuer_host.specs.History.{HostStands}
 use Rattle.kernel.specs.Kernel.{KernelData}
 use Rattle.kernel.specs.Tally.{Counts}
-use Rattle.scenario.specs.Cards.{CardData}
-use Rattle.scenario.specs.Plan.{ScenarioData}
+use Rattle.scenario_plan.specs.Cards.{CardData}
+use Rattle.scenario_plan.specs.Plan.{ScenarioData}
 use Rattle.scenario_lanes.specs.Plan.{LaneData}
 use Rattle.txn_replay.specs.Banked.{IsNew, AreNew, IsNewStore, AreNewStores}
 use Rattle.txn_replay.specs.Counting.{counts_of, counts}

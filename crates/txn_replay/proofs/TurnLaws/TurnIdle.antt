@@ -9,7 +9,7 @@ use Rattle.capture_store.specs.SeenLaneStore.{LaneStoreSeen}
 use Rattle.card_state.specs.Decisions.{Decided}
 use Rattle.kernel.specs.Kernel.{KernelData}
 use Rattle.kernel.specs.Reply.{Reply}
-use Rattle.scenario.specs.Cards.{CardData}
+use Rattle.scenario_plan.specs.Cards.{CardData}
 use Rattle.txn_replay.specs.Payment.{Payment, next_of}
 use Rattle.txn_replay.specs.Seen.{WorldSeen, RunCardStands, LaneStoreAt, RunFor, LaneAt, WorldStands, EventHasLed, plan_for}
 use Rattle.txn_replay.specs.RunCard.{RunCardSeen, RunCardOff, run_card_is_powered}

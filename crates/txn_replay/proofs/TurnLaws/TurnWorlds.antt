@@ -14,8 +14,8 @@ use Rattle.kernel.specs.Kernel.{KernelData}
 use Rattle.kernel.specs.Reply.{Reply}
 use Rattle.kernel.specs.Tally.{Counts}
 use Rattle.report_text.specs.declared.line.Line.{Line}
-use Rattle.scenario.specs.Cards.{CardData}
-use Rattle.scenario.specs.Plan.{ScenarioData}
+use Rattle.scenario_plan.specs.Cards.{CardData}
+use Rattle.scenario_plan.specs.Plan.{ScenarioData}
 use Rattle.txn_replay.specs.Part.{Part, Moved}
 use Rattle.txn_replay.specs.Payment.{Payment, payment_in, next_of}
 use Rattle.txn_replay.specs.Seen.{WorldSeen, plan_in, plan_for, RunCardStands, terminal_plan, LaneStoreAt, RunFor, LaneAt, WorldStands, EventHasLed}

@@ -20,8 +20,8 @@ use Rattle.kernel.specs.Dialogue.{dialogue}
 use Rattle.kernel.specs.Kernel.{KernelData, KernelStands, outset_in}
 use Rattle.kernel.specs.Reply.{Reply}
 use Rattle.object_lists.specs.CardRead.{ReadCard}
-use Rattle.scenario.specs.Cards.{CardData}
-use Rattle.scenario.specs.Plan.{ScenarioData, IsScenario}
+use Rattle.scenario_plan.specs.Cards.{CardData}
+use Rattle.scenario_plan.specs.Plan.{ScenarioData, IsScenario}
 use Rattle.scenario_lanes.specs.Plan.{LaneData, HasCards, purchase_count}
 use Rattle.scenario_lanes.specs.declared.plan.Planned.{Planned}
 use Rattle.terminal_state.specs.StepResults.{latest, sets_card}

@@ -1,6 +1,6 @@
 use Rattle.std.proofs.Common.{List, map, Vec, Global, ℕ, sym, subst}
 use Rattle.line_talk.specs.Talk.{Sides, TalkEnds}
-use Rattle.scenario.specs.declared.plan.CardKind.{CardKind}
+use Rattle.scenario_plan.specs.declared.plan.CardKind.{CardKind}
 use Rattle.card_at_reader.specs.Canned.{IsCannedTalk}
 use Rattle.card_at_reader.specs.Desk.{card_opening}
 use Rattle.card_at_reader.specs.Top.{IsTalkOf}

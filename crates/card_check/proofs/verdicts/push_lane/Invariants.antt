@@ -1,7 +1,7 @@
 use Rattle.std.proofs.Common.{◌≡◌, ◌+◌, ◌++◌, drop}
 use Rattle.card_check.proofs.verdicts.push_lane.Given as goal
 use Rattle.card_check.specs.Verdicts.{lane_text, lines_text}
-use Rattle.scenario.specs.Seen.{seen_cards}
+use Rattle.scenario_plan.specs.SeenCards.{seen_cards}
 
 abbrev pub invariant-loop-index : goal.invariant-loop-index
 invariant-loop-index l =

@@ -1,7 +1,7 @@
 use Rattle.std.proofs.Common.{ap, ◌∙◌}
 use Rattle.std.proofs.lemmas.Result.{on_err_weaker}
 use Rattle.emv_top.proofs.Closings.{close_more, close_front, close_end_front}
-use Rattle.scenario.specs.Plan.{ScenarioData}
+use Rattle.scenario_plan.specs.Plan.{ScenarioData}
 use Rattle.emv_top.proofs.closing.close.Goals as goal
 
 pub returns-in-Err-clause-front : goal.returns-in-Err-clause-front

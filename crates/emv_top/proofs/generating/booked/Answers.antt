@@ -3,7 +3,7 @@ use Rattle.std.proofs.lemmas.Int.{to_z-of_z}
 use Rattle.std.specs.Int.{w128}
 use Rattle.emv_top.specs.Generating.{capped_sum}
 use Rattle.emv_top.proofs.Booked.{booked_more}
-use Rattle.scenario.specs.Plan.{ScenarioData}
+use Rattle.scenario_plan.specs.Plan.{ScenarioData}
 use Rattle.emv_top.proofs.generating.booked.Goals as goal
 
 pub loop-account-preserved : goal.loop-account-preserved

@@ -1,7 +1,7 @@
 use Rattle.std.proofs.Common.{length, ap, subst, sym, ◌∙◌}
 use Rattle.emv_top.specs.Input.{first_purchases}
 use Rattle.emv_top.proofs.Inputs.{untorn_scenario, same_first}
-use Rattle.scenario.specs.Plan.{ScenarioData, IsScenario}
+use Rattle.scenario_plan.specs.Plan.{ScenarioData, IsScenario}
 use Rattle.emv_top.proofs.input.take_tear.Goals as goal
 
 pub returns-clause-rules : goal.returns-clause-rules

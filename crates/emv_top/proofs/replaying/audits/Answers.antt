@@ -1,7 +1,7 @@
 use Rattle.std.proofs.Common.{◌≡◌, ◌+◌, None, refl, rules, ap, ◌∙◌, slice_get, subst, arith}
 use Rattle.emv_top.proofs.Going.{passes}
 use Rattle.emv_top.proofs.Replays.{onward, cut_off, stays}
-use Rattle.scenario.specs.Plan.{ScenarioData}
+use Rattle.scenario_plan.specs.Plan.{ScenarioData}
 use Rattle.txn_replay.specs.Run.{Reached, Auditing, Finished, auditing, finished}
 use Rattle.txn_replay.specs.Steps.{checks}
 use Rattle.txn_replay.specs.declared.event.Event.TheVariants.{Audit}

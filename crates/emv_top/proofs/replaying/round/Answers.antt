@@ -1,7 +1,7 @@
 use Rattle.std.proofs.Common.{◌≡◌, ℕ, ◌+◌, ◌<◌, ◌≤◌, List, length, refl, ap, rules, ◌∙◌, subst, arith}
 use Rattle.emv_top.proofs.Going.{passes}
 use Rattle.emv_top.proofs.Replays.{onward, cut_off, onward_next, fell}
-use Rattle.scenario.specs.Plan.{ScenarioData}
+use Rattle.scenario_plan.specs.Plan.{ScenarioData}
 use Rattle.scenario_lanes.specs.Plan.{LaneData}
 use Rattle.txn_replay.specs.Run.{Reached, Round, round, again}
 use Rattle.txn_replay.specs.declared.event.Event.TheVariants.{Turn}

@@ -1,6 +1,6 @@
 use Rattle.std.proofs.Common.{◌≡◌, true, rules, ◌∙◌, sym, subst}
 use Rattle.emv_top.proofs.Going.{passes}
-use Rattle.scenario.specs.Plan.{ScenarioData}
+use Rattle.scenario_plan.specs.Plan.{ScenarioData}
 use Rattle.txn_replay.specs.Run.{Reached, Round, Settling, settlement, all_over}
 use Rattle.txn_replay.specs.World.{World}
 use Rattle.txn_replay.specs.Seen.{WorldStands}

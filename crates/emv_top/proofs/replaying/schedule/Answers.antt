@@ -1,7 +1,7 @@
 use Rattle.std.proofs.Common.{ℕ, ◌+◌, refl, ap, rules, ◌∙◌, subst}
 use Rattle.emv_top.proofs.Going.{passes}
 use Rattle.emv_top.proofs.Replays.{scheduled_at, onward, cut_off, at_end}
-use Rattle.scenario.specs.Plan.{ScenarioData}
+use Rattle.scenario_plan.specs.Plan.{ScenarioData}
 use Rattle.txn_replay.specs.Run.{Reached, Scheduled, Round, scheduled, rounds}
 use Rattle.txn_replay.specs.declared.event.Event.TheVariants.{Turn}
 use Rattle.txn_replay.specs.Seen.{WorldStands}

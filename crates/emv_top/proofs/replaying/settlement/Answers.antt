@@ -1,7 +1,7 @@
 use Rattle.std.proofs.Common.{◌≡◌, ◌+◌, None, refl, rules, sym, ap, ◌∙◌, slice_get, subst, arith}
 use Rattle.emv_top.proofs.Going.{passes}
 use Rattle.emv_top.proofs.Replays.{onward_from, cut_off_from, stays}
-use Rattle.scenario.specs.Plan.{ScenarioData}
+use Rattle.scenario_plan.specs.Plan.{ScenarioData}
 use Rattle.txn_replay.specs.Run.{Reached, Settling, Auditing, settling, audit}
 use Rattle.txn_replay.specs.Steps.{settlements}
 use Rattle.txn_replay.specs.Stored.{IsSettledTo}

@@ -4,7 +4,7 @@ use Rattle.emv_top.specs.StatusCode.{Concludes}
 use Rattle.emv_top.specs.declared.status.Status.{Status}
 use Rattle.emv_top.specs.declared.words.Task.TheVariants.{Read}
 use Rattle.emv_top.proofs.Answering.{whole_reading, cut_reading}
-use Rattle.scenario.specs.Plan.{ScenarioData}
+use Rattle.scenario_plan.specs.Plan.{ScenarioData}
 use Rattle.txn_replay.specs.Reading.{to_read}
 use Rattle.emv_top.proofs.top.read_card.Goals as goal
 

@@ -1,6 +1,6 @@
 use Rattle.std.proofs.Common.{ap, ◌∙◌}
 use Rattle.std.proofs.lemmas.List.{map_push}
-use Rattle.scenario.specs.Seen.{seen_card, seen_cards}
+use Rattle.scenario_plan.specs.SeenCards.{seen_card, seen_cards}
 use Rattle.generated.proofs.Numbered.{numbered_push}
 use Rattle.generated.specs.Card.{generated_card}
 use Rattle.generated.proofs.card.cards.Goals as goal

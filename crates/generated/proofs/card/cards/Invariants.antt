@@ -1,6 +1,6 @@
 use Rattle.std.proofs.Common.{◌≡◌, map}
 use Rattle.std.specs.List.{range_with_len}
-use Rattle.scenario.specs.Seen.{seen_cards}
+use Rattle.scenario_plan.specs.SeenCards.{seen_cards}
 use Rattle.generated.specs.Card.{generated_card}
 use Rattle.generated.proofs.card.cards.Given as goal
 

@@ -4,7 +4,7 @@ use Rattle.scenario_fields.specs.TablePaths.{path}
 use Rattle.toml.specs.View.{items_view}
 use Rattle.scenario.proofs.Apart.{accounts_own_pans}
 use Rattle.scenario.specs.Accounts.{accounts_from}
-use Rattle.scenario.specs.Plan.{HaveOwnPans}
+use Rattle.scenario_plan.specs.Plan.{HaveOwnPans}
 use Rattle.scenario.proofs.account.accounts_at.Goals as goal
 
 pub returns-clause-own_pans : goal.returns-clause-own_pans

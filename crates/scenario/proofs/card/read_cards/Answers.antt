@@ -1,10 +1,10 @@
 use Rattle.std.proofs.Common.{◌≡◌, ℕ, ◌+◌, ◌<◌, List, [], ◌∷◌, ◌++◌, length, get_or, drop, Result, Ok, ap, sym, subst, ◌∙◌, rules, arith}
 use Rattle.std.proofs.lemmas.List.{map-append}
-use Rattle.scenario.specs.Seen.{seen_card, seen_cards}
+use Rattle.scenario_plan.specs.SeenCards.{seen_card, seen_cards}
 use Rattle.scenario.proofs.CardParts.{cards_keep, card_names_differ}
 use Rattle.scenario.specs.CardRules.{IsNewCard}
-use Rattle.scenario.specs.Cards.{CardData}
-use Rattle.scenario.specs.declared.plan.NamedCard.{NamedCard}
+use Rattle.scenario_plan.specs.Cards.{CardData}
+use Rattle.scenario_plan.specs.declared.plan.NamedCard.{NamedCard}
 use Rattle.issuer_host.specs.declared.keys.HostKeys.{HostKeys}
 use Rattle.toml.proofs.Views.{items_view-drop}
 use Rattle.toml.specs.Data.{Data, Items, item}

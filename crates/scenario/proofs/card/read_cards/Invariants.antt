@@ -1,10 +1,10 @@
 use Rattle.std.proofs.Common.{◌≡◌, ◌≢◌, [], drop, length}
 use Rattle.std.specs.List.{All, AllPairs}
-use Rattle.scenario.specs.CardRules.{IsCard}
+use Rattle.scenario_plan.specs.Cards.{IsCard}
 use Rattle.toml.specs.View.{items_view}
 use Rattle.scenario_fields.specs.Fields.{with_front}
 use Rattle.scenario.specs.Cards.{cards_from}
-use Rattle.scenario.specs.Seen.{seen_cards}
+use Rattle.scenario_plan.specs.SeenCards.{seen_cards}
 use Rattle.scenario.proofs.card.read_cards.Given as goal
 
 abbrev pub invariant-loop-value : goal.invariant-loop-value

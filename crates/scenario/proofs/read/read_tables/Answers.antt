@@ -3,7 +3,7 @@ use Rattle.scenario_fields.specs.TablePaths.{at_top}
 use Rattle.scenario_lanes.specs.Lanes.{lanes_at}
 use Rattle.scenario.specs.Cards.{card_names}
 use Rattle.scenario.specs.Scenario.{tables_of}
-use Rattle.scenario.specs.Seen.{seen_cards}
+use Rattle.scenario_plan.specs.SeenCards.{seen_cards}
 use Rattle.toml.specs.View.{table_view}
 use Rattle.scenario.proofs.Apart.{plain_names}
 use Rattle.scenario.proofs.CardNames.{cards_count}

@@ -2,7 +2,7 @@ use Rattle.std.proofs.Common.{◌≡◌, ℕ, List, [], ◌∷◌, Some, None, s
 use Rattle.std.proofs.lemmas.Bool.{both_ways}
 use Rattle.card_app.specs.SeenIcc.{IccAnswered}
 use Rattle.report_text.specs.declared.line.Line.TheVariants.{AuditAsk, AuditAnswer}
-use Rattle.scenario.specs.Seen.{seen_card}
+use Rattle.scenario_plan.specs.SeenCards.{seen_card}
 use Rattle.txn_replay.specs.Audited.{question_command}
 use Rattle.txn_replay.proofs.AuditLaws.AuditedCards.{never_cut, asked_so, on_from}
 use Rattle.txn_replay.proofs.audit.ask.Goals as goal

@@ -3,8 +3,8 @@ use Rattle.std.specs.List.{flat_map}
 use Rattle.std.specs.Prelude.{option_map}
 use Rattle.std.proofs.lemmas.List.{length-map}
 use Rattle.card_files.specs.Views.{AppData, ImageData}
-use Rattle.scenario.specs.Cards.{CardData}
-use Rattle.scenario.specs.Seen.{seen_card, seen_cards}
+use Rattle.scenario_plan.specs.Cards.{CardData}
+use Rattle.scenario_plan.specs.SeenCards.{seen_card, seen_cards}
 use Rattle.txn_replay.specs.Audited.{question_check}
 use Rattle.txn_replay.specs.Steps.{PowersUp, app_checks, checks_from}
 use Rattle.txn_replay.proofs.AuditLaws.AuditedCards.{there_apps, there_canned}

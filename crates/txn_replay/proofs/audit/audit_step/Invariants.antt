@@ -1,5 +1,5 @@
 use Rattle.std.proofs.Common.{◌≡◌, ◌≤◌, drop, slice_get}
-use Rattle.scenario.specs.Seen.{seen_cards}
+use Rattle.scenario_plan.specs.SeenCards.{seen_cards}
 use Rattle.txn_replay.specs.Steps.{checks_from}
 use Rattle.txn_replay.proofs.audit.audit_step.Given as goal
 

@@ -1,5 +1,5 @@
 use Rattle.std.proofs.Common.{◌≡◌, Some, None, false, refl, sym, ap, ◌∙◌, subst}
-use Rattle.scenario.specs.Seen.{image_of, seen_card}
+use Rattle.scenario_plan.specs.SeenCards.{image_of, seen_card}
 use Rattle.txn_replay.specs.Audited.{RowRests}
 use Rattle.txn_replay.specs.SeenRunCard.{seen_run_card}
 use Rattle.txn_replay.specs.RunCard.{RunCardSeen, OfApps, OfCanned, IsRunCardOf}

@@ -6,7 +6,7 @@ use Rattle.card_state.specs.Decisions.{Decided}
 use Rattle.card_state.specs.Totals.{totals}
 use Rattle.card_state.specs.declared.state.CardState.{CardState}
 use Rattle.report_text.specs.declared.line.Line.TheVariants.{AuditPower}
-use Rattle.scenario.specs.Seen.{image_of, seen_card}
+use Rattle.scenario_plan.specs.SeenCards.{image_of, seen_card}
 use Rattle.card_counters.specs.Counters.{shown_all}
 use Rattle.txn_replay.proofs.audit.power.Goals as goal
 

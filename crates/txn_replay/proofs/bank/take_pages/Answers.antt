@@ -2,9 +2,8 @@ use Rattle.std.proofs.Common.{◌≡◌, ◌+◌, List, [], ◌∷◌, ◌++◌,
 use Rattle.std.specs.List.{All}
 use Rattle.std.proofs.lemmas.Option.{slice_get_within, get_or_from_slice_get}
 use Rattle.emv_ports.specs.Memory.{IsBlank}
-use Rattle.scenario.specs.CardRules.{IsKind}
-use Rattle.scenario.specs.Cards.{CardData}
-use Rattle.scenario.specs.Seen.{seen_card, seen_cards}
+use Rattle.scenario_plan.specs.Cards.{IsKind, CardData}
+use Rattle.scenario_plan.specs.SeenCards.{seen_card, seen_cards}
 use Rattle.txn_replay.specs.Banked.{AreNew}
 use Rattle.txn_replay.specs.RunCard.{RunCardSeen}
 use Rattle.txn_replay.proofs.PageLaws.CardPagesBack.{one_new, first_blank, rest_blank, rest_drop}

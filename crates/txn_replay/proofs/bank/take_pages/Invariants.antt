@@ -2,8 +2,8 @@ use Rattle.std.proofs.Common.{◌≡◌, ◌≤◌, ◌+◌, map, drop, length}
 use Rattle.std.specs.List.{All}
 use Rattle.std.specs.Vec.{vec_len, vec_capacity}
 use Rattle.emv_ports.specs.Memory.{IsBlank}
-use Rattle.scenario.specs.CardRules.{IsKind}
-use Rattle.scenario.specs.Seen.{seen_cards}
+use Rattle.scenario_plan.specs.Cards.{IsKind}
+use Rattle.scenario_plan.specs.SeenCards.{seen_cards}
 use Rattle.txn_replay.specs.Banked.{AreNew}
 use Rattle.txn_replay.proofs.bank.take_pages.Given as goal
 

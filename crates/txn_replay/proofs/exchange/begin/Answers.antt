@@ -4,7 +4,7 @@ use Rattle.card_state.specs.Decisions.{Decided}
 use Rattle.kernel.specs.Reply.{CardGone}
 use Rattle.report_text.specs.declared.line.Line.{Line}
 use Rattle.report_text.specs.declared.line.Line.TheVariants.{PowerTorn}
-use Rattle.scenario.specs.Seen.{seen_card}
+use Rattle.scenario_plan.specs.SeenCards.{seen_card}
 use Rattle.txn_replay.specs.Called.{IsLost, powered_line}
 use Rattle.txn_replay.specs.Lines.{outcome_line}
 use Rattle.txn_replay.specs.Part.{Part, loses, ended_if_over}

@@ -1,8 +1,8 @@
 use Rattle.std.proofs.Common.{ℕ, ◌≤◌, List, length, map, Some, Vec, Global, refl, sym, ap, ◌∙◌, subst}
 use Rattle.std.specs.List.{All}
-use Rattle.scenario.specs.CardRules.{IsKind}
-use Rattle.scenario.specs.Seen.{image_of, canned_of, seen_card}
-use Rattle.scenario.specs.declared.plan.CardKind.{CardKind}
+use Rattle.scenario_plan.specs.Cards.{IsKind}
+use Rattle.scenario_plan.specs.SeenCards.{image_of, canned_of, seen_card}
+use Rattle.scenario_plan.specs.declared.plan.CardKind.{CardKind}
 use Rattle.txn_replay.proofs.run_card.RunCard.new.Goals as goal
 
 pub invariant_of-result : goal.invariant_of-result

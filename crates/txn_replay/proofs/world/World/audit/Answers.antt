@@ -1,7 +1,7 @@
 use Rattle.std.proofs.Common.{List, ap, ◌∙◌}
-use Rattle.scenario.specs.Plan.{ScenarioData}
-use Rattle.scenario.specs.Seen.{seen_card, seen_cards}
-use Rattle.scenario.specs.declared.plan.NamedCard.{NamedCard}
+use Rattle.scenario_plan.specs.Plan.{ScenarioData}
+use Rattle.scenario_plan.specs.SeenCards.{seen_card, seen_cards}
+use Rattle.scenario_plan.specs.declared.plan.NamedCard.{NamedCard}
 use Rattle.txn_replay.proofs.AuditLaws.AuditAtHand.{none_there, none_goes, check_there, check_few, name_short, at_rest, run_card_of, asked_on, check_goes, check_whole, next_asked}
 use Rattle.txn_replay.proofs.world.World.audit.Goals as goal
 

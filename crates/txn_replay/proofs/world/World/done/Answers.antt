@@ -1,5 +1,5 @@
 use Rattle.std.proofs.Common.{◌≡◌, length, map, sym, ap, ◌∙◌, subst}
-use Rattle.scenario.specs.Plan.{ScenarioData}
+use Rattle.scenario_plan.specs.Plan.{ScenarioData}
 use Rattle.txn_replay.specs.Run.{all_over}
 use Rattle.txn_replay.specs.Seen.{WorldSeen, WorldStands, done_below}
 use Rattle.txn_replay.proofs.TurnLaws.WorldTold.{done_is}

@@ -6,8 +6,7 @@ use Rattle.issuer_host.specs.declared.keys.HostKeys.{HostKeys}
 use Rattle.scenario_fields.specs.Value.{is_one_of}
 use Rattle.scenario_fields.specs.declared.spot.Characters.TheVariants.{LowercaseOrDigit}
 use Rattle.scenario_lanes.specs.Plan.{LaneData, IsLane, HasCards, HaveRoom, purchase_count}
-use Rattle.scenario.specs.CardRules.{AreCards}
-use Rattle.scenario.specs.Cards.{CardData}
+use Rattle.scenario_plan.specs.Cards.{AreCards, CardData}
 
 pub record ScenarioData : Type 0 where
   pub issuer : HostKeys

@@ -1,5 +1,6 @@
+//! A scenario and its cards.
 ghost use Rattle.std.specs.Prelude.{◌≡◌, map, option_map};
-ghost use Rattle.scenario.specs.Seen.{canned_of, image_there};
+ghost use Rattle.scenario_plan.specs.SeenCards.{canned_of, image_there};
 
 use card_files::Image;
 use issuer_host::{Account, HostKeys};
@@ -66,8 +67,8 @@ pub struct Scenario {
 }
 
 impl Model for Scenario {
-    ghost use Rattle.scenario.specs.Plan.{ScenarioData};
-    ghost use Rattle.scenario.specs.Seen.{seen_cards};
+    ghost use Rattle.scenario_plan.specs.Plan.{ScenarioData};
+    ghost use Rattle.scenario_plan.specs.SeenCards.{seen_cards};
 
     ghost Value = { ScenarioData };
 
