@@ -91,6 +91,7 @@ class Room:
         rows = [f"{one}: {' '.join(listed[one])}\n" for one in crates_of(crate)]
         (folder / "crates.txt").write_text("".join(rows))
         move_left(CRATES / crate / "out", self.place(crate) / "out")
+        keep_whole(self.place(crate) / "out")
 
     def place(self, crate):
         """Where a crate stands in the room."""
@@ -101,11 +102,20 @@ class Room:
         move_left(self.place(self.crate) / "out", CRATES / self.crate / "out")
 
 
+def keep_whole(out):
+    """Has a crate of which nothing was kept proved as a whole: a file stands where the toolchain would keep what it proves.
+
+    Where it may keep something it proves a large crate some functions at a time, which takes longer.
+    """
+    if not (out / "incremental").exists():
+        (out / "incremental").write_text("proved as a whole\n")
+
+
 def move_left(old, new):
     """What an earlier proof left goes from one place to the other."""
     new.mkdir(parents=True, exist_ok=True)
     for name in LEFT:
-        if (old / name).exists():
+        if (old / name).is_dir():
             shutil.rmtree(new / name, ignore_errors=True)
             (old / name).replace(new / name)
 
