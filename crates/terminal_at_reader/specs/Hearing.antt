@@ -69,11 +69,11 @@ unread iso HostSilent = None
 unread iso (End text) = None
 
 -- a fault in words
-abbrev pub fault_text : ReplyFault → List ℕ
-fault_text (Message fault) = message_fault_words fault
-fault_text (Iso fault) = iso_fault_words fault
+abbrev pub reply_fault_words : ReplyFault → List ℕ
+reply_fault_words (Message fault) = message_fault_words fault
+reply_fault_words (Iso fault) = iso_fault_words fault
 
 -- the line that tells why a reply can't be read, and nothing of one that can
 abbrev pub fault_line : Option ReplyFault → List ℕ
 fault_line None = []
-fault_line (Some fault) = (codes "? reply " ++ fault_text fault) ++ 10 ∷ []
+fault_line (Some fault) = (codes "? reply " ++ reply_fault_words fault) ++ 10 ∷ []

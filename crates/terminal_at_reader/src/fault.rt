@@ -21,7 +21,7 @@ pub enum ReplyFault {
 /// A fault in words, behind what is there.
 fn add_fault(out: &mut Text, fault: ReplyFault)
     requires { array_vec_len out.old ≤ 100 }
-    ensures text { out.new.items ≡ out.old.items ++ spec.fault_text fault }
+    ensures text { out.new.items ≡ out.old.items ++ spec.reply_fault_words fault }
     ensures len { array_vec_len out.new ≤ array_vec_len out.old + 60 }
 {
     match fault {
