@@ -1,6 +1,6 @@
 -- A talk that is at its end is each purchase's dialogue, one behind the other.
-use Rattle.std.proofs.Common.{◌≡◌, ◌+◌, Ok, inl, inr, ℕ, Bool, true, false, List, [], ◌∷◌, ◌++◌, Option, Some, None, refl, sym, ap, subst, ◌∙◌, append_assoc, if◌then◌else◌, slice_get}
-use Rattle.std.proofs.lemmas.List.{append-nil}
+use Rattle.std.proofs.Common.{◌≡◌, ◌+◌, Ok, inl, inr, ℕ, Bool, true, false, List, [], ◌∷◌, ◌++◌, Option, Some, None, refl, sym, ap, subst, ◌∙◌, append_assoc, arith, if◌then◌else◌, length, slice_get, take}
+use Rattle.std.proofs.lemmas.List.{append-nil, take-take, take_all, take_at}
 use Rattle.std.proofs.lemmas.List.Concat.{flat_map-append}
 use Rattle.std.proofs.lemmas.Slice.Eq.{bytes_eq-Decides}
 use Rattle.std.specs.Io.KnownBytes.{Appends, Consumes}
@@ -24,6 +24,7 @@ use Rattle.line_talk.specs.declared.status.Status.TheVariants.{Done, Refused, Un
 use Rattle.scenario_lanes.specs.Plan.{LaneData}
 use Rattle.scenario_lanes.specs.declared.plan.Planned.{Planned}
 use Rattle.terminal_state.specs.Terminal.{Outset}
+use Rattle.trace_check.proofs.Closing.{Heard, heard_more}
 use Rattle.trace_check.proofs.Lawful.{same_is_dialogue}
 use Rattle.trace_check.proofs.Spelling.{text_is}
 use Rattle.trace_check.specs.Dialogues.{entry_of_standing, is_awaited, reply_with_log}
@@ -34,13 +35,14 @@ use Rattle.trace_check.specs.Verdicts.{verdict_of}
 use Rattle.trace_check.specs.declared.compare.Verdict.TheVariants.{Same}
 use Rattle.trace_check.specs.declared.entry.Entry.{Entry}
 use Rattle.terminal_at_reader.proofs.Entries.{ask_unheard, over_of}
+use Rattle.terminal_at_reader.proofs.Fronts.{has_end}
 use Rattle.terminal_at_reader.specs.Document.{ReadsTerminal}
 use Rattle.terminal_at_reader.specs.Hearing.{fault_line, understood, unread}
 use Rattle.ask_reasons.specs.QuestionText.{question_text}
 use Rattle.terminal_at_reader.specs.Settlement.{settlement_reply}
-use Rattle.terminal_at_reader.specs.Talk.{AreEntries, Doing, Pays, Rests, Settles, TerminalTalked, TerminalTurn, ask_at, asked_line, asked_turn, asks, asks_again, asks_why, begins, end_shown_at, first_turn, goes, goes_on, next_line, next_turn, other_turn, outset_of_planned, paying_turn, question_decided, replies_heard, reply_if_entry, resting_turn, settle_line, settlement_turn, settling_turn, terminal_opening, terminal_turn, told_of, turn_at, turn_by_end, turn_if_captured, turn_if_planned, turn_if_reply, turn_with, want_line, why_line, why_turn}
-use Rattle.terminal_at_reader.specs.Till.{TillData, approval_logged, new_till}
-use Rattle.terminal_at_reader.specs.Top.{ArePaid, HadDialogues, IsPaid, between, paid, terminal_programme, unpaid, written_last}
+use Rattle.terminal_at_reader.specs.Talk.{AreEntries, Doing, Pays, Rests, Settles, TerminalTalked, TerminalTurn, ask_at, asked_line, asked_turn, asks, asks_again, asks_why, begins, end_shown_at, first_turn, goes, goes_on, losing_turn, lost_captured_line, lost_line, lost_turn, next_line, next_turn, other_turn, outset_of_planned, paying_turn, question_decided, replies_heard, reply_if_entry, resting_turn, settle_line, settlement_turn, settling_turn, terminal_opening, terminal_turn, told_of, turn_at, turn_by_end, turn_if_captured, turn_if_planned, turn_if_reply, turn_with, want_line, why_line, why_turn}
+use Rattle.terminal_at_reader.specs.Till.{TillData, approval_logged, new_till, till_begun, till_broken_off, till_lost, till_lost_captured}
+use Rattle.terminal_at_reader.specs.Top.{ArePaid, HadDialogues, IsBrokenOff, IsLoss, IsPaid, between, broken_off, lost, paid, settled, terminal_programme, unpaid, written_last}
 
 -- what was written last
 written_more : (first : List ℕ) (turns : List Turn) (one : Turn) → written_last first (turns ++ one ∷ []) ≡ one.answer
@@ -54,6 +56,12 @@ module _ (iso : Bool) (log : List Logged) (outset : Outset) where
     more : (replies : List Reply) (entries : List Entry) → Exchanges replies entries → (entry : Entry) (reply : Reply) → reply_with_log log entry ≡ Some reply
         → is_awaited (dialogue outset replies).deed reply ≡ true
         → Exchanges (replies ++ reply ∷ []) (entries ++ entry_of_standing outset (dialogue outset replies) ∷ entry ∷ [])
+
+  -- each reply was awaited
+  are_heard : (replies : List Reply) (entries : List Entry) → Exchanges replies entries → Heard (λ later. (dialogue outset later).deed) replies
+  are_heard replies entries none = tt
+  are_heard replies entries (more before earlier exchanges entry reply told awaited) =
+      heard_more (λ later. (dialogue outset later).deed) before reply (are_heard before earlier exchanges) awaited
 
   -- exchanges, and what is left of their dialogue
   joined : (replies : List Reply) (entries : List Entry) → Exchanges replies entries → (later : List Entry) → IsDialogue log outset replies later
@@ -140,6 +148,19 @@ onward_for (Pays outset replies) = way.Awaits
 onward_for Rests = way.Rests
 onward_for (Settles answered) = way.Awaits
 
+-- a line that isn't one of the two that tell of lost power
+not_lost : (line : List ℕ) → bytes_eq line lost_line ≡ false → bytes_eq line lost_captured_line ≡ false → IsLoss line → ⊥
+not_lost line unlost unkept (inl same) = let clash : false ≡ true = sym unlost ∙ ap (λ (l : List ℕ). bytes_eq l lost_line) same in cc clash
+not_lost line unlost unkept (inr same) = let clash : false ≡ true = sym unkept ∙ ap (λ (l : List ℕ). bytes_eq l lost_captured_line) same in cc clash
+
+another_word : (line word : List ℕ) → bytes_eq line word ≡ true → bytes_eq lost_line word ≡ false → bytes_eq lost_captured_line word ≡ false → IsLoss line → ⊥
+another_word line word is unlost unkept (inl same) = let clash : false ≡ true = sym unlost ∙ sym (ap (λ (l : List ℕ). bytes_eq l word) same) ∙ is in cc clash
+another_word line word is unlost unkept (inr same) = let clash : false ≡ true = sym unkept ∙ sym (ap (λ (l : List ℕ). bytes_eq l word) same) ∙ is in cc clash
+
+no_reply : (line reply : List ℕ) → settlement_reply line ≡ Some reply → IsLoss line → ⊥
+no_reply line reply is (inl same) = let clash : None ≡ Some reply = sym (ap settlement_reply same) ∙ is in cc clash
+no_reply line reply is (inr same) = let clash : None ≡ Some reply = sym (ap settlement_reply same) ∙ is in cc clash
+
 module _ (lane : LaneData) where
   abbrev first_written : List ℕ
   first_written = (terminal_opening lane).text
@@ -154,13 +175,23 @@ module _ (lane : LaneData) where
     planned : Planned
     planned_is : slice_get lane.purchases number ≡ Some planned
     outset_is : outset ≡ outset_of_planned lane planned
-    paid_before : ArePaid lane first_written before number till.log
+    left : List Logged
+    paid_before : ArePaid lane first_written before number till.log left
+    length_is : length till.log ≡ till.log_before
     exchanges : AsExchanges lane.iso till.log outset (written_last first_written before) mine replies
 
+  -- and it waits for a reply
+  record Waiting (turns : List Turn) (outset : Outset) (replies : List Reply) (till : TillData) : Type 0 where
+    runs : Running turns outset replies till
+    waits : end_shown_at outset replies ≡ None
+
+  abbrev HasPaid : List Turn → TillData → Type 0
+  HasPaid turns till = ArePaid lane first_written turns till.begun till.log (take till.log_before till.log)
+
   abbrev Came : List Turn → Doing → TillData → Type 0
-  Came turns (Pays outset replies) till = Running turns outset replies till
-  Came turns Rests till = ArePaid lane first_written turns till.begun till.log
-  Came turns (Settles answered) till = ArePaid lane first_written turns till.begun till.log
+  Came turns (Pays outset replies) till = Waiting turns outset replies till
+  Came turns Rests till = HasPaid turns till
+  Came turns (Settles answered) till = HasPaid turns till
 
   record Far (turns : List Turn) (turn : TerminalTurn) : Type 0 where
     onward_is : turn.onward ≡ onward_for turn.doing
@@ -168,7 +199,9 @@ module _ (lane : LaneData) where
 
   -- a purchase is whole
   whole : (turns : List Turn) (outset : Outset) (replies : List Reply) (till : TillData) (end : EndShown) → Running turns outset replies till
-      → end_shown_at outset replies ≡ Some end → ArePaid lane first_written turns till.begun (till.log ++ approval_logged outset.purchase.amount end.ending end.pan)
+      → end_shown_at outset replies ≡ Some end
+      → ArePaid lane first_written turns till.begun (till.log ++ approval_logged outset.purchase.amount end.ending end.pan)
+      (take till.log_before (till.log ++ approval_logged outset.purchase.amount end.ending end.pan))
   whole turns outset replies till end runs ended =
       let at = dialogue outset replies in
       let ask = ask_at outset replies in
@@ -192,15 +225,49 @@ module _ (lane : LaneData) where
         ends = subst (λ (d : Outset). end_shown_at d (replies_heard till.log all) ≡ Some end) runs.outset_is ends;
         same = λ empty. of_first till.log empty dialogue_is;
       } in
-      let so = paid runs.before runs.mine runs.number till.log runs.planned end runs.paid_before runs.planned_is one in
-      subst (λ (ts : List Turn). ArePaid lane first_written ts till.begun (till.log ++ approval_logged outset.purchase.amount end.ending end.pan)) (sym runs.split)
-      (subst (λ (n : ℕ). ArePaid lane first_written (runs.before ++ runs.mine) n (till.log ++ approval_logged outset.purchase.amount end.ending end.pan)) (sym runs.number_is)
-      (subst (λ (d : Outset). ArePaid lane first_written (runs.before ++ runs.mine) (runs.number + 1) (till.log ++ approval_logged d.purchase.amount end.ending end.pan)) (sym runs.outset_is) so))
+      let so = paid runs.before runs.mine runs.number till.log runs.left runs.planned end runs.paid_before runs.planned_is one in
+      let approval = approval_logged outset.purchase.amount end.ending end.pan in
+      subst (λ (left : List Logged). ArePaid lane first_written turns till.begun (till.log ++ approval) left)
+      (sym (take_at till.log approval till.log_before runs.length_is))
+      (subst (λ (ts : List Turn). ArePaid lane first_written ts till.begun (till.log ++ approval) till.log) (sym runs.split)
+      (subst (λ (n : ℕ). ArePaid lane first_written (runs.before ++ runs.mine) n (till.log ++ approval) till.log) (sym runs.number_is)
+      (subst (λ (d : Outset). ArePaid lane first_written (runs.before ++ runs.mine) (runs.number + 1)
+      (till.log ++ approval_logged d.purchase.amount end.ending end.pan) till.log) (sym runs.outset_is) so)))
+
+  -- a purchase is broken off behind its lines by one more
+  cut_short : (turns : List Turn) (outset : Outset) (replies : List Reply) (till : TillData) (one : Turn) → Waiting turns outset replies till
+      → one.line ≡ lost_line → HasPaid (turns ++ one ∷ []) (till_broken_off till)
+  cut_short turns outset replies till one waiting is =
+      let runs = waiting.runs in
+      let ask = ask_at outset replies in
+      let far = runs.exchanges in
+      let all = far.entries ++ ask ∷ [] in
+      let rest = has_end till.log outset replies (are_heard lane.iso till.log outset replies far.entries far.exchanges) in
+      let dialogue_is : IsDialogue till.log outset [] (all ++ rest.0) =
+      subst (λ (es : List Entry). IsDialogue till.log outset [] es) (sym (append_assoc far.entries (ask ∷ []) rest.0))
+      (joined lane.iso till.log outset replies far.entries far.exchanges (ask ∷ rest.0) rest.1) in
+      let heard : replies_heard till.log all ≡ replies =
+      heard_all lane.iso till.log outset replies far.entries far.exchanges ask (none_heard lane.iso till.log outset replies) in
+      let waits : end_shown_at outset (replies_heard till.log all) ≡ None = ap (λ (r : List Reply). end_shown_at outset r) heard ∙ waiting.waits in
+      let cut : IsBrokenOff lane runs.planned till.log (written_last first_written runs.before) runs.mine = record {
+        entries = all;
+        are = subst (λ (d : Outset). AreEntries lane.iso till.log d (written_last first_written runs.before) runs.mine all) runs.outset_is far.are;
+        front = (rest.0, subst (λ (d : Outset). IsDialogue till.log d [] (all ++ rest.0)) runs.outset_is dialogue_is);
+        waits = subst (λ (d : Outset). end_shown_at d (replies_heard till.log all) ≡ None) runs.outset_is waits;
+      } in
+      let so = broken_off runs.before runs.mine one runs.number till.log runs.left runs.planned runs.paid_before runs.planned_is cut is in
+      let split : turns ++ one ∷ [] ≡ runs.before ++ (runs.mine ++ one ∷ []) =
+      ap (λ (ts : List Turn). ts ++ one ∷ []) runs.split ∙ append_assoc runs.before runs.mine (one ∷ []) in
+      let length_is = runs.length_is in
+      subst (λ (left : List Logged). ArePaid lane first_written (turns ++ one ∷ []) till.begun till.log left)
+      (sym (take_all till.log_before till.log (omega (arith, length_is))))
+      (subst (λ (ts : List Turn). ArePaid lane first_written ts till.begun till.log till.log) (sym split)
+      (subst (λ (n : ℕ). ArePaid lane first_written (runs.before ++ (runs.mine ++ one ∷ [])) n till.log till.log) (sym runs.number_is) so))
 
   -- where a purchase stands behind its lines
   stands_by : (turns : List Turn) (outset : Outset) (replies : List Reply) (till : TillData) (text : List ℕ) (end : Option EndShown) → Running turns outset replies till
       → end_shown_at outset replies ≡ end → Far turns (turn_by_end outset replies till text end)
-  stands_by turns outset replies till text None runs is = record { onward_is = refl; came = runs }
+  stands_by turns outset replies till text None runs is = record { onward_is = refl; came = record { runs = runs; waits = is } }
   stands_by turns outset replies till text (Some end) runs is = record { onward_is = refl; came = whole turns outset replies till end runs is }
 
   stands : (turns : List Turn) (outset : Outset) (replies : List Reply) (till : TillData) (told : List ℕ) → Running turns outset replies till
@@ -216,7 +283,10 @@ module _ (lane : LaneData) where
   not_stuck turns doing till may = absurd (may refl)
 
   -- a line of a purchase
-  module _ (turns : List Turn) (outset : Outset) (replies : List Reply) (till : TillData) (line : List ℕ) (runs : Running turns outset replies till) where
+  module _ (turns : List Turn) (outset : Outset) (replies : List Reply) (till : TillData) (line : List ℕ) (waiting : Waiting turns outset replies till) where
+    abbrev runs : Running turns outset replies till
+    runs = waiting.runs
+
     more_of : (one : Turn) (later : List Reply) → AsExchanges lane.iso till.log outset (written_last first_written runs.before) (runs.mine ++ one ∷ []) later
         → Running (turns ++ one ∷ []) outset later till
     more_of one later exchanges = record {
@@ -228,7 +298,9 @@ module _ (lane : LaneData) where
       planned = runs.planned;
       planned_is = runs.planned_is;
       outset_is = runs.outset_is;
+      left = runs.left;
       paid_before = runs.paid_before;
+      length_is = runs.length_is;
       exchanges = exchanges;
     }
 
@@ -276,18 +348,28 @@ module _ (lane : LaneData) where
         let one : Turn = turn_at line (why_turn way.Awaits (Pays outset replies) till (question_decided outset replies)) in
         record {
           onward_is = refl;
-          came =
-              more_of one replies
-              (told_why lane.iso till.log outset (written_last first_written runs.before) runs.mine replies till line runs.exchanges one is refl refl);
+          came = record {
+            runs =
+                more_of one replies
+                (told_why lane.iso till.log outset (written_last first_written runs.before) runs.mine replies till line runs.exchanges one is refl refl);
+            waits = waiting.waits;
+          };
         }
 
+    by_lost : (test : Bool) → bytes_eq line lost_line ≡ test
+        → GoesBy (if test then lost_turn lost_line (till_broken_off till) else turn_with lane.iso outset replies till (told_of lane.iso (entry_of_text line)) (reply_if_entry lane.iso till.log (entry_of_text line)))
+    by_lost true is may =
+        let one : Turn = turn_at line (lost_turn lost_line (till_broken_off till)) in
+        record { onward_is = refl; came = cut_short turns outset replies till one waiting ((bytes_eq-Decides line lost_line).0 is) }
+    by_lost false other may = by_entry (entry_of_text line) refl may
+
     by_other : (test : Bool) → bytes_eq line why_line ≡ test
-        → GoesBy (if test then why_turn way.Awaits (Pays outset replies) till (question_decided outset replies) else turn_with lane.iso outset replies till (told_of lane.iso (entry_of_text line)) (reply_if_entry lane.iso till.log (entry_of_text line)))
+        → GoesBy (if test then why_turn way.Awaits (Pays outset replies) till (question_decided outset replies) else if bytes_eq line lost_line then lost_turn lost_line (till_broken_off till) else turn_with lane.iso outset replies till (told_of lane.iso (entry_of_text line)) (reply_if_entry lane.iso till.log (entry_of_text line)))
     by_other true is may = by_why is may
-    by_other false other may = by_entry (entry_of_text line) refl may
+    by_other false other may = by_lost (bytes_eq line lost_line) refl may
 
     by_line : (test : Bool) → bytes_eq line want_line ≡ test
-        → GoesBy (if test then asked_turn lane.iso outset replies till [] else if bytes_eq line why_line then why_turn way.Awaits (Pays outset replies) till (question_decided outset replies) else turn_with lane.iso outset replies till (told_of lane.iso (entry_of_text line)) (reply_if_entry lane.iso till.log (entry_of_text line)))
+        → GoesBy (if test then asked_turn lane.iso outset replies till [] else if bytes_eq line why_line then why_turn way.Awaits (Pays outset replies) till (question_decided outset replies) else if bytes_eq line lost_line then lost_turn lost_line (till_broken_off till) else turn_with lane.iso outset replies till (told_of lane.iso (entry_of_text line)) (reply_if_entry lane.iso till.log (entry_of_text line)))
     by_line true is may = by_want is may
     by_line false other may = by_other (bytes_eq line why_line) refl may
 
@@ -296,21 +378,29 @@ module _ (lane : LaneData) where
     in_purchase may = by_line (bytes_eq line want_line) refl may
 
   -- a line between purchases
-  module _ (turns : List Turn) (till : TillData) (line : List ℕ) (are : ArePaid lane first_written turns till.begun till.log) where
+  module _ (turns : List Turn) (till : TillData) (line : List ℕ) (are : HasPaid turns till) where
     abbrev GoesAside : TerminalTurn → Type 0
     GoesAside turn = Far (turns ++ turn_at line turn ∷ []) turn
 
-    aside : (one : Turn) → ArePaid lane first_written (turns ++ one ∷ []) till.begun till.log
-    aside one = between turns one till.begun till.log are
+    aside : (turn : TerminalTurn) → (IsLoss line → ⊥) → HasPaid (turns ++ turn_at line turn ∷ []) till
+    aside turn unlost = between turns (turn_at line turn) till.begun till.log (take till.log_before till.log) are unlost
 
-    rests_on : GoesAside (other_turn way.Rests Rests till)
-    rests_on = record { onward_is = refl; came = aside (turn_at line (other_turn way.Rests Rests till)) }
+    stays : (turn : TerminalTurn) → turn.onward ≡ onward_for turn.doing → Came (turns ++ turn_at line turn ∷ []) turn.doing turn.till → GoesAside turn
+    stays turn same came = record { onward_is = same; came = came }
 
-    by_planned : (planned : Option Planned) → slice_get lane.purchases till.begun ≡ planned → GoesAside (turn_if_planned lane till planned)
-    by_planned None is = rests_on
-    by_planned (Some planned) is =
+    -- what the purchase that ended last brought is taken back
+    taken_back : (turn : TerminalTurn) → IsLoss line
+        → ArePaid lane first_written (turns ++ turn_at line turn ∷ []) till.begun (take till.log_before till.log) (take till.log_before (take till.log_before till.log))
+    taken_back turn is =
+        subst (λ (left : List Logged). ArePaid lane first_written (turns ++ turn_at line turn ∷ []) till.begun (take till.log_before till.log) left)
+        (sym (take-take till.log_before till.log_before till.log (omega arith)))
+        (lost turns (turn_at line turn) till.begun till.log (take till.log_before till.log) are is)
+
+    by_planned : (IsLoss line → ⊥) → (planned : Option Planned) → slice_get lane.purchases till.begun ≡ planned → GoesAside (turn_if_planned lane till planned)
+    by_planned unlost None is = stays (other_turn way.Rests Rests till) refl (aside (other_turn way.Rests Rests till) unlost)
+    by_planned unlost (Some planned) is =
         let outset : Outset = outset_of_planned lane planned in
-        let began : TillData = record till { begun = till.begun + 1 } in
+        let began : TillData = till_begun till in
         let turn : TerminalTurn = asked_turn lane.iso outset [] began [] in
         let one : Turn = turn_at line turn in
         let answer : (end : Option EndShown) → (turn_by_end outset [] began (asked_line lane.iso outset []) end).answer ≡ asked_line lane.iso outset [] =
@@ -325,7 +415,9 @@ module _ (lane : LaneData) where
           planned = planned;
           planned_is = is;
           outset_is = refl;
-          paid_before = aside one;
+          left = take till.log_before till.log;
+          paid_before = aside turn unlost;
+          length_is = refl;
           exchanges = record {
             entries = [];
             exchanges = none;
@@ -333,43 +425,71 @@ module _ (lane : LaneData) where
           };
         })
 
-    by_captured : (answered : ℕ) (told : List ℕ) (captured : Option (List ℕ)) → GoesAside (turn_if_captured lane.iso till answered told captured)
-    by_captured answered told None = record { onward_is = refl; came = aside (turn_at line (turn_if_captured lane.iso till answered told None)) }
-    by_captured answered told (Some message) = record { onward_is = refl; came = aside (turn_at line (turn_if_captured lane.iso till answered told (Some message))) }
+    by_captured : (IsLoss line → ⊥) → (answered : ℕ) (told : List ℕ) (captured : Option (List ℕ)) → GoesAside (turn_if_captured lane.iso till answered told captured)
+    by_captured unlost answered told None =
+        let turn : TerminalTurn = turn_if_captured lane.iso till answered told None in
+        stays turn refl
+        (subst (λ (left : List Logged). ArePaid lane first_written (turns ++ turn_at line turn ∷ []) till.begun till.log left)
+        (sym (take_all (length till.log) till.log (omega arith)))
+        (settled turns (turn_at line turn) told answered till.begun till.log (take till.log_before till.log) are refl))
+    by_captured unlost answered told (Some message) =
+        let turn : TerminalTurn = turn_if_captured lane.iso till answered told (Some message) in
+        stays turn refl (aside turn unlost)
 
-    by_why_asked : (test : Bool) → GoesAside (if test then why_turn way.Rests Rests till till.question else other_turn way.Rests Rests till)
-    by_why_asked true = record { onward_is = refl; came = aside (turn_at line (why_turn way.Rests Rests till till.question)) }
-    by_why_asked false = rests_on
+    by_loss : (test captured : Bool) → bytes_eq line lost_line ≡ test → bytes_eq line lost_captured_line ≡ captured
+        → GoesAside (if test then lost_turn lost_line (till_lost till) else if captured then lost_turn lost_captured_line (till_lost_captured till) else other_turn way.Rests Rests till)
+    by_loss true captured is other =
+        let turn : TerminalTurn = lost_turn lost_line (till_lost till) in
+        stays turn refl (taken_back turn (inl ((bytes_eq-Decides line lost_line).0 is)))
+    by_loss false true isnt is =
+        let turn : TerminalTurn = lost_turn lost_captured_line (till_lost_captured till) in
+        stays turn refl (taken_back turn (inr ((bytes_eq-Decides line lost_captured_line).0 is)))
+    by_loss false false unlost unkept =
+        let turn : TerminalTurn = other_turn way.Rests Rests till in
+        stays turn refl (aside turn (not_lost line unlost unkept))
 
-    by_settle : (test why : Bool)
-        → GoesAside (if test then settlement_turn lane.iso till 0 [] else if why then why_turn way.Rests Rests till till.question else other_turn way.Rests Rests till)
-    by_settle true why = by_captured 0 [] (slice_get till.captures 0)
-    by_settle false why = by_why_asked why
+    losing : GoesAside (losing_turn till line)
+    unfolding losing_turn
+    losing = by_loss (bytes_eq line lost_line) (bytes_eq line lost_captured_line) refl refl
 
-    by_next : (test other why : Bool)
-        → GoesAside (if test then next_turn lane till else if other then settlement_turn lane.iso till 0 [] else if why then why_turn way.Rests Rests till till.question else other_turn way.Rests Rests till)
-    by_next true other why = by_planned (slice_get lane.purchases till.begun) refl
-    by_next false other why = by_settle other why
+    by_why_asked : (test : Bool) → bytes_eq line why_line ≡ test → GoesAside (if test then why_turn way.Rests Rests till till.question else losing_turn till line)
+    by_why_asked true is =
+        let turn : TerminalTurn = why_turn way.Rests Rests till till.question in
+        stays turn refl (aside turn (another_word line why_line is refl refl))
+    by_why_asked false isnt = losing
+
+    by_settle : (test why : Bool) → bytes_eq line settle_line ≡ test → bytes_eq line why_line ≡ why
+        → GoesAside (if test then settlement_turn lane.iso till 0 [] else if why then why_turn way.Rests Rests till till.question else losing_turn till line)
+    by_settle true why is asked = by_captured (another_word line settle_line is refl refl) 0 [] (slice_get till.captures 0)
+    by_settle false why isnt asked = by_why_asked why asked
+
+    by_next : (test other why : Bool) → bytes_eq line next_line ≡ test → bytes_eq line settle_line ≡ other → bytes_eq line why_line ≡ why
+        → GoesAside (if test then next_turn lane till else if other then settlement_turn lane.iso till 0 [] else if why then why_turn way.Rests Rests till till.question else losing_turn till line)
+    by_next true other why is settles asked = by_planned (another_word line next_line is refl refl) (slice_get lane.purchases till.begun) refl
+    by_next false other why isnt settles asked = by_settle other why settles asked
 
     at_rest : GoesAside (resting_turn lane till line)
     unfolding resting_turn
-    at_rest = by_next (bytes_eq line next_line) (bytes_eq line settle_line) (bytes_eq line why_line)
+    at_rest = by_next (bytes_eq line next_line) (bytes_eq line settle_line) (bytes_eq line why_line) refl refl refl
 
-    by_said : (answered : ℕ) (reply : Option (List ℕ)) → Goes (turns ++ turn_at line (turn_if_reply lane.iso till answered reply) ∷ []) (turn_if_reply lane.iso till answered reply)
-    by_said answered None may = absurd (may refl)
-    by_said answered (Some reply) may = by_captured (answered + 1) _ (slice_get till.captures (answered + 1))
+    by_said : (answered : ℕ) (reply : Option (List ℕ)) → settlement_reply line ≡ reply
+        → Goes (turns ++ turn_at line (turn_if_reply lane.iso till answered reply) ∷ []) (turn_if_reply lane.iso till answered reply)
+    by_said answered None is may = absurd (may refl)
+    by_said answered (Some reply) is may = by_captured (no_reply line reply is) (answered + 1) _ (slice_get till.captures (answered + 1))
 
-    by_why_wanted : (answered : ℕ) (test : Bool) → (let turn : TerminalTurn = (if test then why_turn way.Awaits (Settles answered) till till.question else turn_if_reply lane.iso till answered (settlement_reply line)) in Goes (turns ++ turn_at line turn ∷ []) turn)
-    by_why_wanted answered true may = record { onward_is = refl; came = aside (turn_at line (why_turn way.Awaits (Settles answered) till till.question)) }
-    by_why_wanted answered false may = by_said answered (settlement_reply line) may
+    by_why_wanted : (answered : ℕ) (test : Bool) → bytes_eq line why_line ≡ test → (let turn : TerminalTurn = (if test then why_turn way.Awaits (Settles answered) till till.question else turn_if_reply lane.iso till answered (settlement_reply line)) in Goes (turns ++ turn_at line turn ∷ []) turn)
+    by_why_wanted answered true is may =
+        let turn : TerminalTurn = why_turn way.Awaits (Settles answered) till till.question in
+        stays turn refl (aside turn (another_word line why_line is refl refl))
+    by_why_wanted answered false isnt may = by_said answered (settlement_reply line) refl may
 
-    by_wanted : (answered : ℕ) (test why : Bool) → (let turn : TerminalTurn = (if test then settlement_turn lane.iso till answered [] else if why then why_turn way.Awaits (Settles answered) till till.question else turn_if_reply lane.iso till answered (settlement_reply line)) in Goes (turns ++ turn_at line turn ∷ []) turn)
-    by_wanted answered true why may = by_captured answered [] (slice_get till.captures answered)
-    by_wanted answered false why may = by_why_wanted answered why may
+    by_wanted : (answered : ℕ) (test why : Bool) → bytes_eq line want_line ≡ test → bytes_eq line why_line ≡ why → (let turn : TerminalTurn = (if test then settlement_turn lane.iso till answered [] else if why then why_turn way.Awaits (Settles answered) till till.question else turn_if_reply lane.iso till answered (settlement_reply line)) in Goes (turns ++ turn_at line turn ∷ []) turn)
+    by_wanted answered true why is asked may = by_captured (another_word line want_line is refl refl) answered [] (slice_get till.captures answered)
+    by_wanted answered false why isnt asked may = by_why_wanted answered why asked may
 
     in_settlement : (answered : ℕ) → Goes (turns ++ turn_at line (settling_turn lane.iso till answered line) ∷ []) (settling_turn lane.iso till answered line)
     unfolding settling_turn
-    in_settlement answered may = by_wanted answered (bytes_eq line want_line) (bytes_eq line why_line) may
+    in_settlement answered may = by_wanted answered (bytes_eq line want_line) (bytes_eq line why_line) refl refl may
 
   -- before the first line
   at_first : (planned : Option Planned) → slice_get lane.purchases 0 ≡ planned → (turn : TerminalTurn) → turn_if_planned lane new_till planned ≡ turn
@@ -377,7 +497,7 @@ module _ (lane : LaneData) where
   at_first None is turn turn_is says = subst (λ (t : TerminalTurn). Far [] t) turn_is record { onward_is = refl; came = unpaid }
   at_first (Some planned) is turn turn_is says =
       let outset : Outset = outset_of_planned lane planned in
-      let began : TillData = record new_till { begun = new_till.begun + 1 } in
+      let began : TillData = till_begun new_till in
       let answer : (end : Option EndShown) → (turn_by_end outset [] began (asked_line lane.iso outset []) end).answer ≡ asked_line lane.iso outset [] =
       λ end. elim end as (λ e. (turn_by_end outset [] began (asked_line lane.iso outset []) e).answer ≡ asked_line lane.iso outset []) [ None ↦ refl | Some shown ↦ refl ] in
       let written : first_written ≡ asked_line lane.iso outset [] =
@@ -393,7 +513,9 @@ module _ (lane : LaneData) where
         planned = planned;
         planned_is = is;
         outset_is = refl;
+        left = [];
         paid_before = unpaid;
+        length_is = refl;
         exchanges = record { entries = []; exchanges = none; are = asks (ask_at outset []) written };
       }))
 
@@ -457,7 +579,7 @@ module _ (s : Sides) (bytes : List ℕ) where
     turns : List Turn
     till : TillData
     talked : TerminalTalked lane turns Rests till
-    paid_are : ArePaid lane (terminal_opening lane).text turns till.begun till.log
+    paid_are : ArePaid lane (terminal_opening lane).text turns till.begun till.log (take till.log_before till.log)
     told : Appends s.before s.held ((terminal_opening lane).text ++ answers_of turns)
     left : Option (List ℕ)
     rest : List ℕ

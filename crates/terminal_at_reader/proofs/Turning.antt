@@ -1,6 +1,6 @@
 -- What a terminal says to a line, by what it is at.
-use Rattle.std.proofs.Common.{◌≡◌, ◌≤◌, ◌<◌, ◌+◌, ℕ, Bool, true, false, List, [], ◌∷◌, ◌++◌, length, Option, Some, None, Result, Ok, Err, OnOk, IfOk, refl, sym, ap, subst, ◌∙◌, arith, slice_get}
-use Rattle.std.proofs.lemmas.List.Elements.{All-get_or, All-nil}
+use Rattle.std.proofs.Common.{◌≡◌, ◌≤◌, ◌<◌, ◌+◌, ℕ, Bool, true, false, List, [], ◌∷◌, ◌++◌, length, Option, Some, None, Result, Ok, Err, OnOk, IfOk, refl, sym, ap, subst, ◌∙◌, arith, slice_get, take}
+use Rattle.std.proofs.lemmas.List.Elements.{All-get_or, All-nil, All-take}
 use Rattle.std.proofs.lemmas.Option.{get_or_from_slice_get, slice_get_within}
 use Rattle.std.specs.Prelude.{option_map}
 use Rattle.std.specs.Str.{bytes_eq}
@@ -32,8 +32,8 @@ use Rattle.terminal_at_reader.specs.Hearing.{fault_line, understood, unread}
 use Rattle.ask_reasons.specs.LastQuestion.{question_behind}
 use Rattle.ask_reasons.specs.QuestionText.{question_text}
 use Rattle.terminal_at_reader.specs.Settlement.{settled_line, settlement_line, settlement_reply}
-use Rattle.terminal_at_reader.specs.Talk.{Doing, HasAmounts, HasAskedSo, HasOpened, IsPaying, IsTurnOf, Pays, Rests, Settles, TerminalTalked, TerminalTurn, WorksAt, asked_line, asked_turn, begins, end_shown_at, goes, line_of, next_line, next_turn, other_turn, outset_of_planned, paying_turn, question_decided, resting_turn, settle_line, settlement_turn, settling_turn, terminal_opening, terminal_turn, turn_by_end, turn_if_captured, turn_if_planned, turn_if_reply, turn_with, want_line, why_line, why_turn}
-use Rattle.terminal_at_reader.specs.Till.{TillData, new_till, till_ended}
+use Rattle.terminal_at_reader.specs.Talk.{Doing, HasAmounts, HasAskedSo, HasOpened, IsPaying, IsTurnOf, Pays, Rests, Settles, TerminalTalked, TerminalTurn, WorksAt, asked_line, asked_turn, begins, end_shown_at, goes, line_of, losing_turn, lost_captured_line, lost_line, lost_turn, next_line, next_turn, other_turn, outset_of_planned, paying_turn, question_decided, resting_turn, settle_line, settlement_turn, settling_turn, terminal_opening, terminal_turn, turn_by_end, turn_if_captured, turn_if_planned, turn_if_reply, turn_with, want_line, why_line, why_turn}
+use Rattle.terminal_at_reader.specs.Till.{TillData, new_till, till_begun, till_broken_off, till_ended, till_lost, till_lost_captured, till_settled}
 use Rattle.ask_reasons.specs.declared.question.Question.{Question}
 use Rattle.terminal_at_reader.specs.declared.work.Phase.TheVariants as phase
 use Rattle.terminal_at_reader.specs.declared.work.Work.{Work}
@@ -52,6 +52,14 @@ if_other A B P (Err fault) a b goes_so = tt
 pub stuck_turn : (work : Work) (text : List ℕ) (onward : Onward) (doing : Doing) (till : TillData) → text ≡ other_line → onward ≡ way.Stuck
     → IsTurnOf work text onward (other_turn way.Stuck doing till)
 stuck_turn work text onward doing till told stuck = record { answer_is = told; onward_is = stuck; works = λ may. absurd may }
+
+-- the power is lost
+pub lost_told : (work : Work) (text : List ℕ) (onward : Onward) (line : List ℕ) (till : TillData) → text ≡ line ++ 10 ∷ [] → onward ≡ way.Rests
+    → WorksAt work Rests till → IsTurnOf work text onward (lost_turn line till)
+lost_told work text onward line till told rests works = record { answer_is = told; onward_is = rests; works = λ may. works }
+
+pub front_amounts : (count : ℕ) (log : List Logged) → HasAmounts log → HasAmounts (take count log)
+front_amounts count log amounts = All-take (λ (logged : Logged). logged.amount ≤ most_amount) count log amounts
 
 -- a purchase that waits for a reply
 pub awaits_turn : (iso : Bool) (work : Work) (outset : Outset) (replies : List Reply) (told text : List ℕ) → IsPaying work outset replies → HasAmounts work.till.log
@@ -130,10 +138,21 @@ module _ (iso : Bool) (outset : Outset) (replies : List Reply) (till : TillData)
       behind_by (why_turn way.Awaits (Pays outset replies) till (question_decided outset replies)) (why_is unwanted is) work text onward
       (why_told work text onward way.Awaits (Pays outset replies) till (question_decided outset replies) told stays works)
 
-  module _ (unwanted : bytes_eq line want_line ≡ false) (unasked : bytes_eq line why_line ≡ false) where
+  -- the line that tells of lost power
+  lost_is : bytes_eq line want_line ≡ false → bytes_eq line why_line ≡ false → bytes_eq line lost_line ≡ true
+      → paying_turn iso outset replies till line ≡ lost_turn lost_line (till_broken_off till)
+  unfolding paying_turn
+  lost_is unwanted unasked is = rw (unwanted, unasked, is) refl
+
+  pub broken_off : bytes_eq line want_line ≡ false → bytes_eq line why_line ≡ false → bytes_eq line lost_line ≡ true → (work : Work) (text : List ℕ) (onward : Onward)
+      → IsTurnOf work text onward (lost_turn lost_line (till_broken_off till)) → Behind work text onward
+  broken_off unwanted unasked is work text onward so =
+      behind_by (lost_turn lost_line (till_broken_off till)) (lost_is unwanted unasked is) work text onward so
+
+  module _ (unwanted : bytes_eq line want_line ≡ false) (unasked : bytes_eq line why_line ≡ false) (unlost : bytes_eq line lost_line ≡ false) where
     none_is : entry_of_text line ≡ None → paying_turn iso outset replies till line ≡ other_turn way.Stuck (Pays outset replies) till
     unfolding paying_turn
-    none_is none = rw (unwanted, unasked, none) refl
+    none_is none = rw (unwanted, unasked, unlost, none) refl
 
     -- no entry
     pub none_read : entry_of_text line ≡ None → (work : Work) (text : List ℕ) (onward : Onward) → text ≡ other_line → onward ≡ way.Stuck → Behind work text onward
@@ -144,7 +163,7 @@ module _ (iso : Bool) (outset : Outset) (replies : List Reply) (till : TillData)
       by_reply : (reply : Option Reply) → reply_with_log till.log (understood iso said) ≡ reply
           → paying_turn iso outset replies till line ≡ turn_with iso outset replies till (fault_line (unread iso said)) reply
       unfolding paying_turn
-      by_reply reply heard = rw (unwanted, unasked, is, heard) refl
+      by_reply reply heard = rw (unwanted, unasked, unlost, is, heard) refl
 
       module _ (mid : KernelData) (entry : Entry) (entry_is : entry ≡ understood iso said) where
         abbrev TakenSo : Bool → Type 0
@@ -223,7 +242,7 @@ module _ (iso : Bool) (till : TillData) (answered : ℕ) where
       }
 
   pub settled_turn : slice_get till.captures answered ≡ None → (work : Work) (text : List ℕ) → text ≡ settled_line answered
-      → work.phase ≡ phase.Rests → work.till ≡ record till { captures = [] } → HasAmounts till.log → IsTurnOf work text way.Rests (settlement_turn iso till answered [])
+      → work.phase ≡ phase.Rests → work.till ≡ till_settled till → HasAmounts till.log → IsTurnOf work text way.Rests (settlement_turn iso till answered [])
   settled_turn is work text told rests same amounts =
       sent_by None is work text way.Rests
       record { answer_is = told; onward_is = refl; works = λ may. record { till_is = same; does = rests; amounts = amounts } }
@@ -268,14 +287,29 @@ module _ (lane : LaneData) (till : TillData) (line : List ℕ) where
   unfolding resting_turn
   why_at_rest other another is = rw (other, another, is) refl
 
-  pub other_is : bytes_eq line next_line ≡ false → bytes_eq line settle_line ≡ false → bytes_eq line why_line ≡ false
-      → resting_turn lane till line ≡ other_turn way.Rests Rests till
+  pub losing_is : bytes_eq line next_line ≡ false → bytes_eq line settle_line ≡ false → bytes_eq line why_line ≡ false
+      → resting_turn lane till line ≡ losing_turn till line
   unfolding resting_turn
-  other_is other another unasked = rw (other, another, unasked) refl
+  losing_is other another unasked = rw (other, another, unasked) refl
 
-  pub rests_turn : (work : Work) (text : List ℕ) (onward : Onward) → WorksAt work Rests till → text ≡ other_line → onward ≡ way.Rests
-      → IsTurnOf work text onward (other_turn way.Rests Rests till)
-  rests_turn work text onward works told rests = record { answer_is = told; onward_is = rests; works = λ may. works }
+-- a line at rest that may tell of lost power
+module _ (till : TillData) (line : List ℕ) where
+  pub lost_at_rest : bytes_eq line lost_line ≡ true → losing_turn till line ≡ lost_turn lost_line (till_lost till)
+  unfolding losing_turn
+  lost_at_rest is = rw is refl
+
+  pub lost_captured_is : bytes_eq line lost_line ≡ false → bytes_eq line lost_captured_line ≡ true
+      → losing_turn till line ≡ lost_turn lost_captured_line (till_lost_captured till)
+  unfolding losing_turn
+  lost_captured_is other is = rw (other, is) refl
+
+  pub other_is : bytes_eq line lost_line ≡ false → bytes_eq line lost_captured_line ≡ false → losing_turn till line ≡ other_turn way.Rests Rests till
+  unfolding losing_turn
+  other_is other another = rw (other, another) refl
+
+pub rests_turn : (till : TillData) (work : Work) (text : List ℕ) (onward : Onward) → WorksAt work Rests till → text ≡ other_line → onward ≡ way.Rests
+    → IsTurnOf work text onward (other_turn way.Rests Rests till)
+rests_turn till work text onward works told rests = record { answer_is = told; onward_is = rests; works = λ may. works }
 
 pub turn_along : (work : Work) (text : List ℕ) (onward : Onward) (turn other : TerminalTurn) → other ≡ turn → IsTurnOf work text onward turn → IsTurnOf work text onward other
 turn_along work text onward turn other is so = subst (λ (t : TerminalTurn). IsTurnOf work text onward t) (sym is) so
@@ -376,10 +410,10 @@ module _ (lane : LaneData) (work : Work) (opened : HasOpened lane work) where
       (λ ended. let clash : next.ToCard ≡ next.Ended = sym opened.waits ∙ stands ∙ same ∙ ended in cc clash)
 
   first_is : kernel_next work.kernel ≡ standing_next (dialogue (outset_in work.kernel) [])
-      → next_turn lane new_till ≡ turn_by_end outset_first [] (record new_till { begun = new_till.begun + 1 }) (asked_line lane.iso outset_first []) None
+      → next_turn lane new_till ≡ turn_by_end outset_first [] (till_begun new_till) (asked_line lane.iso outset_first []) None
   first_is stands =
       ap (λ (p : Option Planned). turn_if_planned lane new_till p) opened.first
-      ∙ ap (λ (e : Option EndShown). turn_by_end outset_first [] (record new_till { begun = new_till.begun + 1 }) (asked_line lane.iso outset_first []) e) (waits_first stands)
+      ∙ ap (λ (e : Option EndShown). turn_by_end outset_first [] (till_begun new_till) (asked_line lane.iso outset_first []) e) (waits_first stands)
 
   pub opens_so : kernel_next work.kernel ≡ standing_next (dialogue (outset_in work.kernel) []) → (text : List ℕ) → text ≡ asked_line lane.iso (outset_in work.kernel) []
       → opening_of text ≡ terminal_opening lane
@@ -389,10 +423,10 @@ module _ (lane : LaneData) (work : Work) (opened : HasOpened lane work) where
 
   -- before the first line
   pub none_asked : kernel_next work.kernel ≡ standing_next (dialogue (outset_in work.kernel) []) → IsLane lane → length lane.purchases ≤ most_purchases
-      → WorksAt work (Pays outset_first []) (record new_till { begun = new_till.begun + 1 }) → HasAskedSo lane work []
+      → WorksAt work (Pays outset_first []) (till_begun new_till) → HasAskedSo lane work []
   none_asked stands rules few works = record {
     doing = Pays outset_first [];
-    till = record new_till { begun = new_till.begun + 1 };
+    till = till_begun new_till;
     rules = rules;
     few = few;
     talked = subst (λ (t : TerminalTurn). TerminalTalked lane [] t.doing t.till) (first_is stands) begins;
@@ -426,7 +460,7 @@ begun_paying work outset begun pays amount type_is fits = record {
 -- the terminal of a lane whose first purchase has just begun
 pub has_begun : (lane : LaneData) (work : Work) (planned : Planned) → IsLane lane → length lane.purchases ≤ most_purchases → slice_get lane.purchases 0 ≡ Some planned
     → HasBegun (outset_of_planned lane planned) work.kernel → kernel_next work.kernel ≡ standing_next (dialogue (outset_in work.kernel) []) → work.phase ≡ phase.Pays
-    → work.amount ≡ planned.purchase.amount → work.terminal_type ≡ lane.settings.kind → work.till ≡ record new_till { begun = new_till.begun + 1 } → HasAskedSo lane work []
+    → work.amount ≡ planned.purchase.amount → work.terminal_type ≡ lane.settings.kind → work.till ≡ till_begun new_till → HasAskedSo lane work []
 has_begun lane work planned rules few first begun stands pays amount type_is till_is =
     let opened : HasOpened lane work = record {
       planned = planned;

@@ -25,7 +25,7 @@ use Rattle.terminal_at_reader.specs.Hearing.{fault_line, spoken, understood, unr
 use Rattle.ask_reasons.specs.LastQuestion.{question_behind}
 use Rattle.ask_reasons.specs.QuestionText.{question_text}
 use Rattle.terminal_at_reader.specs.Settlement.{settled_line, settlement_line, settlement_reply, settlement_unread}
-use Rattle.terminal_at_reader.specs.Till.{TillData, new_till, till_ended}
+use Rattle.terminal_at_reader.specs.Till.{TillData, new_till, till_begun, till_broken_off, till_ended, till_lost, till_lost_captured, till_settled}
 use Rattle.ask_reasons.specs.declared.question.Question.{Question}
 use Rattle.terminal_at_reader.specs.declared.work.Phase.TheVariants as phase
 use Rattle.terminal_at_reader.specs.declared.work.Work.{Work}
@@ -67,6 +67,13 @@ next_line = codes "next"
 abbrev pub settle_line : List ℕ
 settle_line = codes "settle"
 
+-- those that tell the terminal that it has lost its power, at rest also that its store had the last message
+abbrev pub lost_line : List ℕ
+lost_line = codes "lost"
+
+abbrev pub lost_captured_line : List ℕ
+lost_captured_line = codes "lost captured"
+
 -- what a terminal is at: a purchase, behind these replies; it rests; or a settlement, in which so many messages were
 -- answered and the one behind them waits for its reply
 pub data Doing : Type 0 where
@@ -87,6 +94,10 @@ other_turn onward doing till = record { answer = other_line; onward = onward; do
 -- what a question's kind rests on is told, and all stays as it is
 abbrev pub why_turn : Onward → Doing → TillData → Option Question → TerminalTurn
 why_turn onward doing till question = record { answer = question_text question; onward = onward; doing = doing; till = till }
+
+-- the terminal has lost its power: the line comes again, and it rests
+abbrev pub lost_turn : List ℕ → TillData → TerminalTurn
+lost_turn line till = record { answer = line ++ 10 ∷ []; onward = way.Rests; doing = Rests; till = till }
 
 -- the purchase asks, and where it has ended the terminal rests
 abbrev pub turn_by_end : Outset → List Reply → TillData → List ℕ → Option EndShown → TerminalTurn
@@ -118,12 +129,13 @@ unfoldable pub paying_turn : Bool → Outset → List Reply → TillData → Lis
 paying_turn iso outset replies till line =
     if bytes_eq line want_line then asked_turn iso outset replies till []
     else if bytes_eq line why_line then why_turn way.Awaits (Pays outset replies) till (question_decided outset replies)
+    else if bytes_eq line lost_line then lost_turn lost_line (till_broken_off till)
     else turn_with iso outset replies till (told_of iso (entry_of_text line)) (reply_if_entry iso till.log (entry_of_text line))
 
 -- a purchase begins, where one is left
 abbrev pub turn_if_planned : LaneData → TillData → Option Planned → TerminalTurn
 turn_if_planned lane till None = other_turn way.Rests Rests till
-turn_if_planned lane till (Some planned) = asked_turn lane.iso (outset_of_planned lane planned) [] (record till { begun = till.begun + 1 }) []
+turn_if_planned lane till (Some planned) = asked_turn lane.iso (outset_of_planned lane planned) [] (till_begun till) []
 
 abbrev pub next_turn : LaneData → TillData → TerminalTurn
 next_turn lane till = turn_if_planned lane till (slice_get lane.purchases till.begun)
@@ -131,12 +143,19 @@ next_turn lane till = turn_if_planned lane till (slice_get lane.purchases till.b
 -- the message behind so many is sent, or all were, and none is left
 abbrev pub turn_if_captured : Bool → TillData → ℕ → List ℕ → Option (List ℕ) → TerminalTurn
 turn_if_captured iso till answered told None =
-    record { answer = told ++ settled_line answered; onward = way.Rests; doing = Rests; till = record till { captures = [] } }
+    record { answer = told ++ settled_line answered; onward = way.Rests; doing = Rests; till = till_settled till }
 turn_if_captured iso till answered told (Some message) =
     record { answer = told ++ settlement_line iso message; onward = way.Awaits; doing = Settles answered; till = till }
 
 abbrev pub settlement_turn : Bool → TillData → ℕ → List ℕ → TerminalTurn
 settlement_turn iso till answered told = turn_if_captured iso till answered told (slice_get till.captures answered)
+
+-- at rest it may have lost its power
+unfoldable pub losing_turn : TillData → List ℕ → TerminalTurn
+losing_turn till line =
+    if bytes_eq line lost_line then lost_turn lost_line (till_lost till)
+    else if bytes_eq line lost_captured_line then lost_turn lost_captured_line (till_lost_captured till)
+    else other_turn way.Rests Rests till
 
 -- at rest; the last question is that of the purchase that ended last
 unfoldable pub resting_turn : LaneData → TillData → List ℕ → TerminalTurn
@@ -144,7 +163,7 @@ resting_turn lane till line =
     if bytes_eq line next_line then next_turn lane till
     else if bytes_eq line settle_line then settlement_turn lane.iso till 0 []
     else if bytes_eq line why_line then why_turn way.Rests Rests till till.question
-    else other_turn way.Rests Rests till
+    else losing_turn till line
 
 -- in a settlement, in which a reply is awaited
 abbrev pub turn_if_reply : Bool → TillData → ℕ → Option (List ℕ) → TerminalTurn

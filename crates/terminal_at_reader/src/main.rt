@@ -6,6 +6,7 @@ mod asking;
 mod document;
 mod fault;
 mod hearing;
+mod losing;
 mod paying;
 mod saying;
 mod settling;

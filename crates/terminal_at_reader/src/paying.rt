@@ -8,6 +8,7 @@ ghost use Rattle.terminal_at_reader.specs.Talk.{HasAmounts, IsPaying, IsTurnOf, 
 
 use crate::asking::{tell_ask, tell_end};
 use crate::hearing::hear;
+use crate::losing::break_off;
 use crate::saying::{put_fault, put_other, put_why};
 use crate::work::{Phase, Work};
 use ask_reasons::last_question;
@@ -52,8 +53,8 @@ pub fn add_asked(iso: bool, work: &mut Work<'_>, text: &mut Vec<u8>) -> Result<O
     Ok(Onward::Awaits)
 }
 
-/// Answers a line of a purchase: a reply that the terminal awaits by what it asks next, `want` by what it asked last, and
-/// `why` by what its last question about a cryptogram rests on.
+/// Answers a line of a purchase: a reply that the terminal awaits by what it asks next, `want` by what it asked last, `why`
+/// by what its last question about a cryptogram rests on; behind `lost` the purchase is over.
 pub fn answer_paying(
     alloc: Global,
     iso: bool,
@@ -73,6 +74,9 @@ pub fn answer_paying(
     if line == b"why".as_slice() {
         let question = last_question(work.terminal_type, &work.kernel);
         return put_why(question, Onward::Awaits, text);
+    }
+    if line == b"lost".as_slice() {
+        return break_off(work, text);
     }
     let Some(said) = entry_of(alloc, line)? else {
         return put_other(Onward::Stuck, text);

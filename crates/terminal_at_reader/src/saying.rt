@@ -2,6 +2,7 @@
 ghost use Rattle.std.specs.Prelude.{◌≡◌, OnOk, IfOk};
 ghost use Rattle.ask_reasons.specs.QuestionText.{question_text};
 ghost use Rattle.line_talk.specs.Talk.{other_line};
+ghost use Rattle.line_talk.specs.declared.party.Onward.TheVariants as way;
 ghost use Rattle.terminal_at_reader.specs.Hearing.{fault_line};
 
 use crate::fault::{ReplyFault, tell_fault};
@@ -25,6 +26,15 @@ pub fn put_other(onward: Onward, text: &mut Vec<u8>) -> Result<Onward, AllocErro
 {
     put_line(text, b"?\n")?;
     Ok(onward)
+}
+
+/// Puts a line that tells of lost power in place of what was there; the terminal rests.
+pub fn put_lost(line: &[u8], text: &mut Vec<u8>) -> Result<Onward, AllocError>
+    ensures told { OnOk result (text.new.items ≡ line.now) }
+    ensures rests { IfOk result (λ found. found ≡ way.Rests) }
+{
+    put_line(text, line)?;
+    Ok(Onward::Rests)
 }
 
 /// Puts the line of a question in place of what was there, and tells how it goes on.

@@ -4,9 +4,10 @@ ghost use Rattle.emv_dict.specs.Settings.{IsPurchase, IsSettings};
 ghost use Rattle.scenario_lanes.specs.Plan.{IsLane};
 ghost use Rattle.terminal_at_reader.specs.Document.{most_purchases};
 ghost use Rattle.terminal_at_reader.specs.Talk.{Doing, HasAmounts, HasAskedSo, IsTerminalTalk, IsTurnOf, Rests, WorksAt, asked_turn, next_turn, outset_of_planned, resting_turn, terminal_opening, terminal_turn};
-ghost use Rattle.terminal_at_reader.specs.Till.{TillData};
+ghost use Rattle.terminal_at_reader.specs.Till.{TillData, till_begun};
 
 use crate::asking::tell_ask;
+use crate::losing::answer_losing;
 use crate::paying::{add_asked, answer_paying};
 use crate::saying::{put_other, put_why};
 use crate::settling::{add_settlement, answer_settling};
@@ -89,7 +90,7 @@ fn begin_planned<'s>(
     requires few { work.old.till.begun < most_purchases }
     requires log { HasAmounts work.old.till.log }
     ensures turn { IfOk result (λ onward. IsTurnOf work.new text.new.items onward
-        (asked_turn lane.now.iso (outset_of_planned lane.now planned.now) [] (record work.old.till { begun = work.old.till.begun + 1 }) text.old.items)) }
+        (asked_turn lane.now.iso (outset_of_planned lane.now planned.now) [] (till_begun work.old.till) text.old.items)) }
 {
     work.kernel.begin_again(&lane.settings, &planned.purchase);
     work.amount = amount_of(planned);
@@ -118,7 +119,7 @@ fn begin_next<'s>(
 }
 
 /// Answers a line at rest: `next` by what the next purchase asks first, `settle` by the first message that waits for
-/// settlement, and `why` by what the last question of the purchase that ended last rests on.
+/// settlement, and `why` by what the last question of the purchase that ended last rests on; or it has lost its power.
 fn answer_resting<'s>(
     lane: &'s Lane,
     work: &mut Work<'s>,
@@ -140,7 +141,7 @@ fn answer_resting<'s>(
     if line == b"why".as_slice() {
         return put_why(work.till.question(), Onward::Rests, text);
     }
-    put_other(Onward::Rests, text)
+    answer_losing(work, line, text)
 }
 
 /// Answers a line, by what the terminal is at.

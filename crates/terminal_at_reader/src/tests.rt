@@ -1,3 +1,4 @@
+mod lost;
 mod questions;
 mod settlement;
 
@@ -330,6 +331,8 @@ fn other_lines_break_it_off(rt: HostRuntime) -> Result<(), Fail> {
         "end approved offline\n",
         "< torn\n",
         "document 3\n",
+        "lost captured\n",
+        "lost \n",
         "\0\n",
         "< \u{e9}\n",
     ] {

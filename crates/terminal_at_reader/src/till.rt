@@ -1,12 +1,12 @@
 //! What a terminal has of its purchases: how many have begun, the log of those that were approved, the messages that wait
-//! for settlement, and the last question about a cryptogram.
+//! for settlement, the last question about a cryptogram, and what of them is lost with the power.
 ghost use Rattle.std.specs.Prelude.{◌≡◌, ◌≤◌, ◌<◌, ◌+◌, ◌++◌, [], length, OnOk, option_map, option_to_list, slice_get};
 ghost use Rattle.std.specs.List.{All};
 ghost use Rattle.auth_message.specs.Whole.{IsMessage};
 ghost use Rattle.emv_dict.specs.Settings.{most_amount};
 ghost use Rattle.kernel.specs.EndShown.{EndShown};
 ghost use Rattle.terminal_at_reader.specs.Talk.{HasAmounts};
-ghost use Rattle.terminal_at_reader.specs.Till.{approval_logged, new_till, till_ended};
+ghost use Rattle.terminal_at_reader.specs.Till.{approval_logged, new_till, till_begun, till_broken_off, till_ended, till_lost, till_lost_captured, till_settled};
 
 use ask_reasons::Question;
 use auth_message::Message;
@@ -66,13 +66,15 @@ pub struct Outcome {
 }
 
 /// How many purchases have begun, the log of approvals, what waits for settlement, oldest first, and the last question of
-/// the purchase that ended last.
+/// the purchase that ended last; and how long log and messages were before that purchase, or behind a settlement since.
 #[derive(Drop)]
 pub struct Till {
     begun: usize,
     log: Vec<Logged>,
     captures: Vec<Captured>,
     question: Option<Question>,
+    log_before: usize,
+    captures_before: usize,
 }
 
 impl Model for Till {
@@ -80,7 +82,7 @@ impl Model for Till {
 
     ghost Value = { TillData };
 
-    ghost view = { λ t. record { begun = t.begun; log = t.log.items; captures = t.captures.items; question = t.question } };
+    ghost view = { λ t. record { begun = t.begun; log = t.log.items; captures = t.captures.items; question = t.question; log_before = t.log_before; captures_before = t.captures_before } };
 }
 
 impl Till {
@@ -93,6 +95,8 @@ impl Till {
             log: Vec::new(alloc),
             captures: Vec::new(alloc),
             question: None,
+            log_before: 0,
+            captures_before: 0,
         }
     }
 
@@ -103,12 +107,14 @@ impl Till {
         self.begun
     }
 
-    /// One more begins.
+    /// One more begins, and what there is stays.
     pub fn begin(&mut self)
         requires { self.old.begun < usize.MAX }
-        ensures { self.new ≡ record self.old { begun = self.old.begun + 1 } }
+        ensures { self.new ≡ till_begun self.old }
     {
         self.begun += 1;
+        self.log_before = self.log.len();
+        self.captures_before = self.captures.len();
     }
 
     /// The log of the purchases that were approved.
@@ -162,11 +168,35 @@ impl Till {
         Ok(())
     }
 
-    /// Nothing waits for settlement any more.
+    /// Nothing waits for settlement any more, and what there is stays.
     pub fn settle(&mut self)
-        ensures { self.new ≡ record self.old { captures = [] } }
+        ensures { self.new ≡ till_settled self.old }
     {
         self.captures.clear();
+        self.log_before = self.log.len();
+        self.captures_before = 0;
+    }
+
+    /// The power is lost in a purchase: it leaves nothing, and no question.
+    pub fn break_off(&mut self)
+        ensures { self.new ≡ till_broken_off self.old }
+    {
+        self.question = None;
+    }
+
+    /// The power is lost behind a purchase: its approval leaves the log, and the message that it captured no longer waits.
+    pub fn lose(&mut self)
+        ensures { self.new ≡ till_lost self.old }
+    {
+        self.lose_approval();
+        self.captures.truncate(self.captures_before);
+    }
+
+    /// The power is lost where the store had that message: the approval leaves the log.
+    pub fn lose_approval(&mut self)
+        ensures { self.new ≡ till_lost_captured self.old }
+    {
+        self.log.truncate(self.log_before);
     }
 }
 

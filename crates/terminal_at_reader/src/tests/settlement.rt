@@ -4,11 +4,11 @@ use std::process::Abort;
 use std::test::Fail;
 
 /// The presentment of the purchase that is approved offline, and the host's reply.
-const SETTLED: &str = "\
+pub const SETTLED: &str = "\
 settle > e36c9f1c085445524d303030315a0847617390010100105f3401019f02060000000025009f03060000000000009f1a020840950580000000005f2a0208409a032406159c01009f37040102030482021c009f3602000b9f26086114ff966d2fd2329f10060140000103018a025931
 ";
 
-const SETTLED_WELL: &str = "settle < e2048a023030\n";
+pub const SETTLED_WELL: &str = "settle < e2048a023030\n";
 
 #[test]
 fn what_was_captured_is_settled_once(rt: HostRuntime) -> Result<(), Fail> {
@@ -42,6 +42,8 @@ fn a_settlement_that_waits_takes_its_reply_alone(rt: HostRuntime) -> Result<(), 
         "",
         "settle\n",
         "next\n",
+        "lost\n",
+        "lost captured\n",
         "< 9000\n",
         "host < none\n",
         "settle < \n",

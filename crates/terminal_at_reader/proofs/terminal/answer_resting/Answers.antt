@@ -1,6 +1,6 @@
 use Rattle.std.proofs.Common.{◌≡◌, ◌∙◌, ap, Bool, List, ℕ, Option, [], true, false, subst, sym}
 use Rattle.std.specs.Str.{bytes_eq}
-use Rattle.terminal_at_reader.proofs.Turning.{if_other, if_so, next_is, other_is, rests_turn, settle_is, turn_along, why_at_rest, why_told}
+use Rattle.terminal_at_reader.proofs.Turning.{if_other, if_so, losing_is, next_is, settle_is, turn_along, why_at_rest, why_told}
 use Rattle.ask_reasons.specs.QuestionText.{question_text}
 use Rattle.terminal_at_reader.specs.Talk.{IsTurnOf, Rests, next_line, settle_line, settlement_turn, why_line}
 use Rattle.ask_reasons.specs.declared.question.Question.{Question}
@@ -57,8 +57,8 @@ returns c =
     let unasked : bytes_eq c.args.line.now why_line ≡ false =
     sym (c.eq-3.ensures ∙ ap (λ (bytes : List ℕ). bytes_eq c.args.line.now bytes) c.as_slice-3.ensures) ∙ c.if-eq-3.false in
     record {
-      turn = if_other _ _ _ c.put_other.result c.put_other.ensures.told c.put_other.ensures.onward
-          (λ onward told rests.
-          turn_along c.args.work.now c.put_other.new.text.items onward _ _ (other_is c.args.lane.now c.args.work.now.till c.args.line.now isnt isnt_settle unasked)
-          (rests_turn c.args.lane.now c.args.work.now.till c.args.line.now c.args.work.now c.put_other.new.text.items onward c.requires.works told rests));
+      turn = if_so _ _ c.answer_losing.result
+          (λ onward turn.
+          turn_along c.answer_losing.new.work c.answer_losing.new.text.items onward _ _ (losing_is c.args.lane.now c.args.work.now.till c.args.line.now isnt isnt_settle unasked) turn)
+          c.answer_losing.ensures.turn;
     }

@@ -1,11 +1,11 @@
-use Rattle.std.proofs.Common.{◌≡◌, ◌∙◌, ◌+◌, ◌≤◌, ap, arith, length, refl, Some, slice_get, subst, sym}
+use Rattle.std.proofs.Common.{◌≡◌, ◌∙◌, ◌≤◌, ap, arith, length, refl, Some, slice_get, subst, sym}
 use Rattle.std.proofs.lemmas.Option.{slice_get_read}
 use Rattle.kernel.specs.BeginEnd.{HasBegun}
 use Rattle.scenario_lanes.specs.Plan.{LaneData}
 use Rattle.scenario_lanes.specs.declared.plan.Planned.{Planned}
 use Rattle.terminal_at_reader.proofs.Turning.{has_begun}
 use Rattle.terminal_at_reader.specs.Talk.{outset_of_planned}
-use Rattle.terminal_at_reader.specs.Till.{TillData}
+use Rattle.terminal_at_reader.specs.Till.{TillData, till_begun}
 use Rattle.terminal_at_reader.proofs.terminal.begin.Goals as goal
 
 pub returns-clause-begun : goal.returns-clause-begun
@@ -20,4 +20,4 @@ returns-clause-begun c =
     has_begun c.args.lane.now _ planned c.requires.rules c.requires.few first
     (subst (λ (l : LaneData). HasBegun (outset_of_planned l planned) c.begin-kernel.result) same c.begin-kernel.ensures)
     (sym c.next-waits.ensures.exact ∙ c.next-waits.ensures.told _ c.begin-kernel.ensures.stands) refl c.amount_of.ensures c.type_of.ensures
-    (c.begin.ensures ∙ ap (λ (t : TillData). record t { begun = t.begun + 1 }) c.new-till.ensures)
+    (c.begin.ensures ∙ ap (λ (t : TillData). till_begun t) c.new-till.ensures)

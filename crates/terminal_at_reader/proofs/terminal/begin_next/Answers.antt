@@ -1,7 +1,8 @@
-use Rattle.std.proofs.Common.{◌≡◌, ◌∙◌, ◌+◌, ap, List, ℕ, [], Option, None, Some, slice_get, subst, sym}
+use Rattle.std.proofs.Common.{◌≡◌, ◌∙◌, ap, List, ℕ, [], Option, None, Some, slice_get, subst, sym}
 use Rattle.scenario_lanes.specs.declared.plan.Planned.{Planned}
 use Rattle.terminal_at_reader.proofs.Turning.{if_other, if_so, planned_below, planned_fits, planned_is, rests_turn, turn_along}
 use Rattle.terminal_at_reader.specs.Talk.{IsTurnOf, asked_turn, outset_of_planned}
+use Rattle.terminal_at_reader.specs.Till.{till_begun}
 use Rattle.terminal_at_reader.proofs.terminal.begin_next.Goals as goal
 
 pub begin_planned-requires : goal.begin_planned-requires
@@ -24,7 +25,7 @@ returns-in-Some c =
           (λ onward turn.
           turn_along c.begin_planned.new.work c.begin_planned.new.text.items onward _ _ (planned_is c.args.lane.now c.args.work.now.till (Some c.in-Some.planned.now) is)
           (subst (λ (t : List ℕ). IsTurnOf c.begin_planned.new.work c.begin_planned.new.text.items onward
-          (asked_turn c.args.lane.now.iso (outset_of_planned c.args.lane.now c.in-Some.planned.now) [] (record c.args.work.now.till { begun = c.args.work.now.till.begun + 1 }) t))
+          (asked_turn c.args.lane.now.iso (outset_of_planned c.args.lane.now c.in-Some.planned.now) [] (till_begun c.args.work.now.till) t))
           c.requires.empty turn))
           c.begin_planned.ensures.turn;
     }
@@ -38,5 +39,5 @@ returns-in-None c =
       turn = if_other _ _ _ c.put_other.result c.put_other.ensures.told c.put_other.ensures.onward
           (λ onward told rests.
           turn_along c.args.work.now c.put_other.new.text.items onward _ _ (planned_is c.args.lane.now c.args.work.now.till none is)
-          (rests_turn c.args.lane.now c.args.work.now.till [] c.args.work.now c.put_other.new.text.items onward c.requires.works told rests));
+          (rests_turn c.args.work.now.till c.args.work.now c.put_other.new.text.items onward c.requires.works told rests));
     }

@@ -1,9 +1,9 @@
-use Rattle.std.proofs.Common.{◌≡◌, Bool, [], refl, subst, sym, ◌+◌}
+use Rattle.std.proofs.Common.{◌≡◌, Bool, [], refl, subst, sym}
 use Rattle.kernel.specs.BeginEnd.{HasBegun}
 use Rattle.scenario_lanes.specs.Plan.{LaneData}
 use Rattle.terminal_at_reader.proofs.Turning.{begun_paying, if_so}
 use Rattle.terminal_at_reader.specs.Talk.{HasAmounts, IsTurnOf, asked_turn, outset_of_planned}
-use Rattle.terminal_at_reader.specs.Till.{TillData}
+use Rattle.terminal_at_reader.specs.Till.{TillData, till_begun}
 use Rattle.terminal_at_reader.proofs.terminal.begin_planned.Goals as goal
 
 pub add_asked-requires : goal.add_asked-requires
@@ -22,7 +22,7 @@ returns c =
       turn = if_so _ _ c.add_asked.result
           (λ onward turn.
           subst (λ (i : Bool). IsTurnOf c.add_asked.new.work c.add_asked.new.text.items onward
-          (asked_turn i (outset_of_planned c.args.lane.now c.args.planned.now) [] (record c.args.work.now.till { begun = c.args.work.now.till.begun + 1 }) c.args.text.now.items)) c.is_iso.ensures
+          (asked_turn i (outset_of_planned c.args.lane.now c.args.planned.now) [] (till_begun c.args.work.now.till) c.args.text.now.items)) c.is_iso.ensures
           (subst (λ (t : TillData). IsTurnOf c.add_asked.new.work c.add_asked.new.text.items onward
           (asked_turn c.is_iso.result (outset_of_planned c.args.lane.now c.args.planned.now) [] t c.args.text.now.items)) c.begin.ensures
           (turn (outset_of_planned c.args.lane.now c.args.planned.now) []
