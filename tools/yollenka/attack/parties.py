@@ -3,6 +3,7 @@
 The scenario, with its tears and its lost messages, is drawn as `checks/model` draws it; the parties are put together as `lab host
 --scenario` does. The host is `lab serve host`, whose messages a file keeps. Between and within messages it is killed and begun
 again, with half a turn at the end of its file; other peers say half a frame, rubbish or nothing, and messages are said once more.
+Besides, the proved terminal of each lane is led by lines at random (led.py).
 """
 import re
 import signal
@@ -14,6 +15,7 @@ from pathlib import Path
 from random import Random
 from typing import NamedTuple
 
+from yollenka.attack.led import led_faults
 from yollenka.attack.partners import said_to
 from yollenka.faults import Fault
 from yollenka.lab.host_peer import OwnHost, ProvedHost
@@ -165,5 +167,6 @@ def play(seed, number, seen):
             with closing(Disturbed(Served(accounts_of(table), Path(folder)), chance, seen)) as disturbed:
                 wrong = list(faults_of(table, wanted, disturbed, proved, notes))
                 count = disturbed.served.turns()
+    wrong += led_faults(table, chance, seen)
     seen["the model alone, since the terminal has no memory"] += len(notes)
     return Played(count, wrong)

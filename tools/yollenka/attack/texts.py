@@ -10,11 +10,12 @@ WORD = re.compile(rb"[A-Za-z]{2,}")
 MARKS = [b"> ", b"< ", b"host > ", b"host < ", b"L0 > ", b"L0 < ", b"L0 host > ", b"L0 host < ", b"S0 > ", b"S0 < ", b"L9 end 1 ", b"A c1 ",
          b"APDU: ", b"SW: ", b"Sending: ", b"Received (SW1=0x90, SW2=0x00):", b"A>> T=1 (4+0000) ", b"A<< (0000+2) (1ms) ", b"--> ", b"<-- ",
          b"C-APDU ", b"R-APDU ", b"Tx ", b"Rx ", b"bSendBuffer", b"bRecvBuffer", b"RESET", b"end ", b"iso > ", b"pull ", b"power ", b"because ",
-         b"balance ", b"document ", b"trace = [", b"[lane]"]
+         b"balance ", b"settle < ", b"settle > ", b"document ", b"trace = [", b"[lane]"]
 # Lines that are none, or hardly one.
 ODD = [b"", b" ", b"\0", b"\xff\xfe", b"\xef\xbb\xbf", b"> ", b"<", b"< gone", b"host < none", b"> 00", b"> 0", b"> zz", b"end", b"end approved",
-       b"power", b"power torn", b"off", b"want", b"state", b"torn", b"accounts", b"because", b"pull 1 before 1", b"pull 255 within 255",
-       b"pull 0 release", b"balance 1", b"# x", b"done 1", b"refused 1 Toml", b"-" * 100, b"\xe2\x80\xae", b"> " + b"00" * 300, b"> " + b"e1" * 5000]
+       b"power", b"power torn", b"off", b"want", b"why", b"next", b"settle", b"settle < -", b"lost", b"lost captured", b"state", b"torn",
+       b"accounts", b"because", b"pull 1 before 1", b"pull 255 within 255", b"pull 0 release", b"balance 1", b"# x",
+       b"done 1", b"refused 1 Toml", b"-" * 100, b"\xe2\x80\xae", b"> " + b"00" * 300, b"> " + b"e1" * 5000]
 
 
 def lines_of(text):

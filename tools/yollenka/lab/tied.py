@@ -1,18 +1,21 @@
 """The programs of terminal, card and host of a scenario with one lane, tied to one another line by line.
 
-What they say is written as the lines of the scenario's report. The link between terminal and host, and how often a message is
-settled, are of what ties them; a card is pulled out by its own lines. The terminal is asked besides why its last question is of
-its kind, behind all that it asks: it has to tell what the model's terminal tells that gets the same replies.
+What they say is written as the lines of the scenario's report. The link between terminal and host, the memory of what a terminal
+captures, and how often a message is settled, are of what ties them; card and terminal are told by their own lines where they lose
+their power. The terminal is asked besides why its last question is of its kind, behind all that it asks. To each line it has to
+say what the model's terminal says that gets the same ones.
 """
 from contextlib import ExitStack
+from copy import deepcopy
 
 from yollenka.faults import Fault
-from yollenka.lab.host_dialect import as_object
 from yollenka.lab.host_scenario import NOWHERE
 from yollenka.lab.live import pull_line
+from yollenka.lab.tills import TerminalAtLines
 from yollenka.lines import begin, card_document, end, host_document, terminal_document
 from yollenka.model.document import scenario_of
-from yollenka.model.terminal import Terminal
+from yollenka.model.memory import Lost, Store
+from yollenka.model.world import messages_in, stored
 from yollenka.scenarios import document
 
 CANNED = "canned"
@@ -39,30 +42,60 @@ class TiedCard:
         return told
 
 
-class Beside:
-    """The model's terminal of a scenario with one lane, which gets the replies that the program gets."""
+class TiedTerminal:
+    """The program of a scenario's terminal, and beside it the model's terminal, which gets the same lines and has to say the same.
+    `said` is what they say first."""
 
-    def __init__(self, scenario):
-        self.settings, self.log = scenario_of(document(scenario), "replay")["lane"][0], []
-        self.terminal = self.course = self.asked = None
+    def __init__(self, lines, settings):
+        self.lines, self.beside = lines, TerminalAtLines(settings)
+        self.said = self.same("its document", lines.hear(), self.beside.said)
 
-    def begin(self, number):
-        """A purchase begins, counted from 1."""
-        self.terminal = Terminal(self.settings, self.settings["purchase"][number - 1], self.log)
-        self.course = self.terminal.run()
-        self.asked = next(self.course)
+    def ask(self, line):
+        """What they say to a line."""
+        self.lines.say(line)
+        return self.same(line, self.lines.hear_ask(), self.beside.answer(line))
 
-    def take(self, line):
-        """Takes a reply as its line has it; of those that were approved the log is kept."""
-        said = line.rpartition("< ")[2]
-        reply = None if said in ("gone", "none") else bytes.fromhex(said.replace("-", ""))
-        if line.startswith("host "):
-            reply = as_object(self.asked[1], reply, self.settings["dialect"] == "iso")
+    def same(self, line, told, wanted):
+        """What the program says, which the model has to say too."""
+        if told != wanted:
+            raise Fault(f"to {line} the terminal says {told!r}, and the model {wanted!r}")
+        return told
+
+
+class Memory:
+    """A terminal's memory of what it captures, as the model has it; it is torn where the lane is durable, at these places."""
+
+    def __init__(self, settings):
+        self.store = Store(stored([])) if settings["durable"] else None
+        self.tears = [purchase["terminal_tear"] for purchase in settings["purchase"]]
+
+    def stands(self, change):
+        """Whether the power isn't lost in what is done with the store, where there is one."""
         try:
-            self.asked = self.course.send(reply)
-        except StopIteration:
-            if self.terminal.ending.startswith("approved"):
-                self.log.append((self.terminal.pan, self.terminal.purchase["amount"]))
+            if self.store:
+                change(self.store)
+        except Lost:
+            return False
+        return True
+
+    def opens(self, number):
+        """Opens it for a purchase, counted from 1; False where the power is lost."""
+        return self.stands(lambda store: store.open(self.tears[number - 1]))
+
+    def keeps(self, message):
+        """Keeps what a purchase captured, if it did; False where the power is lost."""
+        return not message or self.stands(lambda store: store.commit(stored([*messages_in(store.state), message])))
+
+    def has(self, message, number):
+        """Whether this message is found where the power was lost in a purchase, counted from 1: at the first opening that isn't cut."""
+        store = deepcopy(self.store)
+        for tear in [*self.tears[number:], None]:
+            try:
+                store.open(tear)
+                break
+            except Lost:
+                pass
+        return message in messages_in(store.state)
 
 
 class Tied:
@@ -76,8 +109,9 @@ class Tied:
                       for card in scenario["card"]}
         self.applications = {card["name"]: [row["name"] for row in card.get("app", [])] for card in scenario["card"]}
         self.host = self.started(stack, "host_at_lines", [], host_document(scenario))
-        self.terminal = self.started(stack, "terminal_at_reader", [], terminal_document(scenario, 0, keep=["dialect"]))
-        self.beside = Beside(scenario)
+        lines = self.started(stack, "terminal_at_reader", [], terminal_document(scenario, 0, keep=["dialect"]))
+        settings = scenario_of(document(scenario), "replay")["lane"][0]
+        self.terminal, self.memory = TiedTerminal(lines, settings), Memory(settings)
 
     def started(self, stack, name, words, text):
         """The lines of a program on its document; it is ended with the stack."""
@@ -88,12 +122,6 @@ class Tied:
     def put(self, line):
         """Adds a line to the report."""
         self.report.append(line)
-
-    def ask_why(self):
-        """Asks the terminal why its last question is of its kind."""
-        told, wanted = self.terminal.ask("why"), self.beside.terminal.why()
-        if told != wanted:
-            raise Fault(f"the terminal says {told!r} to `why`, and the model {wanted!r}")
 
     def sent(self, message):
         """The host's reply to a message, as `< H`."""
@@ -119,24 +147,32 @@ class Tied:
         return answer if card.is_on else "< gone"
 
     def pay(self, number, purchase, line):
-        """A purchase, whose first ask this line is."""
+        """A purchase, whose first ask this line is; its end line."""
+        if not self.memory.opens(number):
+            return self.lost("lost")
         card = self.cards[purchase["card"]]
         self.put(f"L0 power {card.name} {card.power(purchase.get('tear'))}")
-        self.beside.begin(number)
         while not line.startswith("end "):
-            self.ask_why()
-            reply = self.asked(line, card, purchase.get("link", "ok"))
-            self.beside.take(reply)
-            self.terminal.say(reply)
-            line = self.terminal.hear_ask()
-        self.ask_why()
-        self.put(f"L0 end {number} {line[4:]}")
+            self.terminal.ask("why")
+            line = self.terminal.ask(self.asked(line, card, purchase.get("link", "ok")))
+        self.terminal.ask("why")
+        message = self.terminal.beside.terminal.capture
+        if self.memory.keeps(message):
+            return line[4:]
+        return self.lost("lost captured" if self.memory.has(message, number) else "lost")
+
+    def lost(self, line):
+        """Tells the terminal by this line that it has lost its power."""
+        if (told := self.terminal.ask(line)) != line:
+            raise Fault(f"to {line} the terminal says {told!r}")
+        self.terminal.ask("why")
+        return "lost"
 
     def settle(self):
         """The settlement: each message is sent so often, and the terminal gets the first reply."""
         line, count = self.terminal.ask("settle"), 0
         while line.startswith("settle > "):
-            self.ask_why()
+            self.terminal.ask("why")
             replies = [self.sent(line[9:]) for _ in range(self.copies)]
             for reply in replies:
                 self.report += [f"S0 > {line[9:]}", f"S0 {reply}"]
@@ -164,9 +200,9 @@ class Tied:
     def run(self):
         """The whole report."""
         purchases = self.lane["purchase"]
-        line = self.terminal.hear()
+        line = self.terminal.said
         for number, purchase in enumerate(purchases, 1):
-            self.pay(number, purchase, line)
+            self.put(f"L0 end {number} {self.pay(number, purchase, line)}")
             line = self.terminal.ask("next")
         if line != "?":
             raise Fault(f"behind its last purchase the terminal says {line!r} to `next`")
