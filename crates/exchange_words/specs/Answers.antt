@@ -13,8 +13,8 @@ use Rattle.value_words.specs.Statuses.{status_line}
 use Rattle.exchange_words.specs.declared.lane.LaneState.{LaneState}
 
 -- the instruction of a command; 0 where it has none
-abbrev pub instruction_of : List ℕ → ℕ
-instruction_of command = slice_index command 1
+abbrev pub instruction_byte : List ℕ → ℕ
+instruction_byte command = slice_index command 1
 
 -- the tag of the one object that the answer to a command is: of SELECT, READ RECORD, GET PROCESSING OPTIONS and GENERATE AC
 -- in format 2, and of GET DATA
@@ -23,10 +23,10 @@ asked_tag command = (if nat_le 4 (length command) then Some (slice_index command
 
 abbrev pub answer_tag : List ℕ → Option ℕ
 answer_tag command =
-    if instruction_of command == 0xA4 then Some 0x6F
-    else if instruction_of command == 0xB2 then Some 0x70
-    else if instruction_of command == 0xA8 || instruction_of command == 0xAE then Some 0x77
-    else if instruction_of command == 0xCA then asked_tag command
+    if instruction_byte command == 0xA4 then Some 0x6F
+    else if instruction_byte command == 0xB2 then Some 0x70
+    else if instruction_byte command == 0xA8 || instruction_byte command == 0xAE then Some 0x77
+    else if instruction_byte command == 0xCA then asked_tag command
     else None
 
 abbrev pub is_sole : Option ℕ → List ℕ → Bool
@@ -75,7 +75,7 @@ value_one instruction (Some value) brief =
 
 -- a body of format 1; none where it is of another form
 abbrev pub format_one : List ℕ → List ℕ → Bool → Option (List Piece)
-format_one command body brief = value_one (instruction_of command) (sole_value 0x80 (items_of body)) brief
+format_one command body brief = value_one (instruction_byte command) (sole_value 0x80 (items_of body)) brief
 
 abbrev pub told_body : List ℕ → List ℕ → Bool → Option (List Piece) → List Piece
 told_body command body brief None = body_words command body brief
@@ -100,7 +100,7 @@ since_online_words lane body brief = (if brief then [] else transactions_since_w
 
 -- an answer to SELECT that was given before
 abbrev pub is_same : LaneState → List ℕ → List ℕ → Bool
-is_same lane command answer = instruction_of command == 0xA4 && bytes_eq answer lane.selected.items
+is_same lane command answer = instruction_byte command == 0xA4 && bytes_eq answer lane.selected.items
 
 -- the file of READ RECORD, in the high five bits of P2
 abbrev pub file_of : List ℕ → ℕ
@@ -110,9 +110,9 @@ file_of command = slice_index command 3 / 8
 -- section 10.2), and of GET DATA
 abbrev pub left_by_new : LaneState → List ℕ → List ℕ → List ℕ → LaneState
 left_by_new lane command answer body =
-    if instruction_of command == 0xA4 then lane_with_selected lane answer body
-    else if instruction_of command == 0xB2 then (if nat_le (file_of command) 10 then with_record lane body else lane)
-    else if instruction_of command == 0xCA then with_counter lane body
+    if instruction_byte command == 0xA4 then lane_with_selected lane answer body
+    else if instruction_byte command == 0xB2 then (if nat_le (file_of command) 10 then with_record lane body else lane)
+    else if instruction_byte command == 0xCA then with_counter lane body
     else lane
 
 abbrev pub left_by_body : LaneState → List ℕ → List ℕ → List ℕ → LaneState
@@ -123,7 +123,7 @@ left_by_body lane command answer body =
 abbrev pub new_body : LaneState → List ℕ → List ℕ → Bool → List Piece
 new_body lane command body brief =
     told_body command body brief (format_one command body brief)
-    ++ (if instruction_of command == 0xCA then since_online_words lane body brief else [])
+    ++ (if instruction_byte command == 0xCA then since_online_words lane body brief else [])
 
 abbrev pub words_of_body : LaneState → List ℕ → List ℕ → List ℕ → Bool → List Piece
 words_of_body lane command answer body brief =
@@ -144,7 +144,7 @@ left_by_some lane command answer body = (if length body == 0 then lane else left
 
 -- a cryptogram: its kind
 abbrev pub gives_cryptogram : List ℕ → ResponseData → Bool
-gives_cryptogram command response = instruction_of command == 0xAE && response.status == no_error
+gives_cryptogram command response = instruction_byte command == 0xAE && response.status == no_error
 
 abbrev pub kind_told : LaneState → List ℕ → ResponseData → List Piece
 kind_told lane command response = (if gives_cryptogram command response then answered_kind_words lane (kind_answered response.body) else [])
@@ -155,7 +155,7 @@ left_by_kind lane command response = (if gives_cryptogram command response then 
 -- a response: its status, its body, and the kind of cryptogram that it gives
 abbrev pub words_of_response : LaneState → List ℕ → List ℕ → ResponseData → Bool → List Piece
 words_of_response lane command answer response brief =
-    status_told (instruction_of command) response ++ body_told lane command answer response.body brief
+    status_told (instruction_byte command) response ++ body_told lane command answer response.body brief
     ++ kind_told (left_by_some lane command answer response.body) command response
 
 abbrev pub left_by_response : LaneState → List ℕ → List ℕ → ResponseData → LaneState

@@ -4,7 +4,7 @@ ghost use Rattle.apdu_core.specs.Seen.{seen_response};
 ghost use Rattle.exchange_words.specs.Answers as words;
 ghost use Rattle.report_lines.specs.Pieces.{Tells};
 
-use crate::body::{instruction_of, tell_and_learn};
+use crate::body::{instruction_byte, tell_and_learn};
 use crate::kind::tell_kind;
 use crate::lane::LaneState;
 use apdu_core::status::NO_ERROR;
@@ -48,7 +48,7 @@ fn tell_if_cryptogram(
     ensures words { Tells out.old out.new (words.kind_told lane.old command.now (seen_response response.now)) }
     ensures left { lane.new ≡ words.left_by_kind lane.old command.now (seen_response response.now) }
 {
-    if instruction_of(command) == 0xae && response.status == NO_ERROR {
+    if instruction_byte(command) == 0xae && response.status == NO_ERROR {
         tell_kind(out, lane, response.body);
     }
 }
@@ -65,7 +65,7 @@ fn tell_response(
     ensures words { Tells out.old out.new (words.words_of_response lane.old command.now answer.now (seen_response response.now) brief) }
     ensures left { lane.new ≡ words.left_by_response lane.old command.now answer.now (seen_response response.now) }
 {
-    tell_if_status(out, instruction_of(command), response);
+    tell_if_status(out, instruction_byte(command), response);
     tell_if_body(out, lane, command, answer, response.body, brief);
     tell_if_cryptogram(out, lane, command, response);
 }

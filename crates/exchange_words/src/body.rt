@@ -17,8 +17,8 @@ const DEPTH: u8 = 8;
 const MOST_FILE: u8 = 10;
 
 /// The instruction of a command; 0 where it has none.
-pub(crate) fn instruction_of(command: &[u8]) -> u8
-    ensures { result ≡ words.instruction_of command.now }
+pub(crate) fn instruction_byte(command: &[u8]) -> u8
+    ensures { result ≡ words.instruction_byte command.now }
 {
     match command {
         [_, instruction, ..] => *instruction,
@@ -50,7 +50,7 @@ fn asked_tag(command: &[u8]) -> Option<Tag>
 fn answer_tag(command: &[u8]) -> Option<Tag>
     ensures { option_map (λ tag. tag.0) result ≡ words.answer_tag command.now }
 {
-    match instruction_of(command) {
+    match instruction_byte(command) {
         0xa4 => Some(Tag(0x6f)),
         0xb2 => Some(Tag(0x70)),
         0xa8 | 0xae => Some(Tag(0x77)),
@@ -168,7 +168,7 @@ fn tell_format_one(out: &mut WordLines, command: &[u8], body: &[u8], brief: bool
     ensures told { result ≡ is_some (words.format_one command.now body.now brief) }
 {
     match sole_value(body, Tag(0x80)) {
-        Some(value) => tell_value_one(out, instruction_of(command), value, brief),
+        Some(value) => tell_value_one(out, instruction_byte(command), value, brief),
         None => false,
     }
 }
@@ -224,14 +224,14 @@ fn tell_counter(out: &mut WordLines, lane: &LaneState, body: &[u8], brief: bool)
 fn is_same(lane: &LaneState, command: &[u8], answer: &[u8]) -> bool
     ensures { result ≡ words.is_same lane.now command.now answer.now }
 {
-    instruction_of(command) == 0xa4 && answer == lane.selected.as_slice()
+    instruction_byte(command) == 0xa4 && answer == lane.selected.as_slice()
 }
 
 /// Keeps what the body of an answer leaves.
 fn learn_body(lane: &mut LaneState, command: &[u8], answer: &[u8], body: &[u8])
     ensures left { lane.new ≡ words.left_by_new lane.old command.now answer.now body.now }
 {
-    match instruction_of(command) {
+    match instruction_byte(command) {
         0xa4 => learn_selected(lane, answer, body),
         0xb2 => {
             if file_of(command) <= MOST_FILE {
@@ -248,7 +248,7 @@ fn tell_new_body(out: &mut WordLines, lane: &LaneState, command: &[u8], body: &[
     ensures { Tells out.old out.new (words.new_body lane.now command.now body.now brief) }
 {
     tell_told(out, command, body, brief);
-    if instruction_of(command) == 0xca {
+    if instruction_byte(command) == 0xca {
         tell_counter(out, lane, body, brief);
     }
 }

@@ -13,7 +13,7 @@ use Rattle.ber_tlv.specs.Written.{tag_bytes}
 use Rattle.emv_dict.specs.declared.ending.Step.{Step}
 use Rattle.emv_dict.specs.declared.ending.Step.TheVariants as step
 use Rattle.hex.specs.Hex.{encode_lower}
-use Rattle.report_lines.specs.Parts.{digits_number, is_digit, split_at, split_word, decimal_number}
+use Rattle.report_lines.specs.Parts.{digits_number, is_ascii_digit, split_at, split_word, decimal_number}
 use Rattle.report_text.specs.Pieces.{hex_or_dash, two_bytes}
 use Rattle.report_text.specs.Told.{IsCardName}
 use Rattle.report_text.specs.Words.{side_word, step_word}
@@ -117,7 +117,7 @@ digit_behind n digit = n * 10 + (digit - 48)
 
 -- digits that write this number
 abbrev Writes : ℕ → List ℕ → Type 0
-Writes n digits = (fold digit_behind 0 digits ≡ n) × (list_all is_digit digits ≡ true)
+Writes n digits = (fold digit_behind 0 digits ≡ n) × (list_all is_ascii_digit digits ≡ true)
 
 one_digit : (n : ℕ) → n < 10 → Writes n ((48 + n) ∷ [])
 one_digit n small = (omega arith, grind (arith, nat_tests))
@@ -125,11 +125,11 @@ one_digit n small = (omega arith, grind (arith, nat_tests))
 digit_more : (n : ℕ) (digits : List ℕ) → 10 ≤ n → Writes (n / 10) digits → Writes n (digits ++ (48 + n % 10) ∷ [])
 digit_more n digits many written =
     let low : n % 10 < 10 = omega arith in
-    let last : list_all is_digit ((48 + n % 10) ∷ []) ≡ true = grind (arith, nat_tests) in
+    let last : list_all is_ascii_digit ((48 + n % 10) ∷ []) ≡ true = grind (arith, nat_tests) in
     let before : fold digit_behind 0 digits ≡ n / 10 = written.0 in
     let next : fold digit_behind (fold digit_behind 0 digits) ((48 + n % 10) ∷ []) ≡ n = omega arith in (
       fold-append digit_behind 0 digits ((48 + n % 10) ∷ []) ∙ next,
-      list_all-append is_digit digits ((48 + n % 10) ∷ []) ∙ rw written.1 last,
+      list_all-append is_ascii_digit digits ((48 + n % 10) ∷ []) ∙ rw written.1 last,
     )
 
 digits_written : (n : ℕ) → n < 2 ^ 64 → Writes n (decimal n)

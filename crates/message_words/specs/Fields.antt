@@ -2,11 +2,11 @@
 use Rattle.std.specs.Prelude.{ℕ, ◌+◌, ◌-◌, ◌*◌, ◌/◌, ◌%◌, ◌==◌, Bool, ◌&&◌, ◌||◌, nat_le, if◌then◌else◌, List, [], ◌∷◌, length, take, drop, filter, slice_index, Option, Some, None}
 use Rattle.std.specs.Int.{bit_at}
 use Rattle.std.specs.List.{range_with_len}
-use Rattle.report_lines.specs.Parts.{is_digit}
+use Rattle.report_lines.specs.Parts.{is_ascii_digit}
 
 -- the number of two decimal digits, and of four
 abbrev pub two_digits_number : ℕ → ℕ → Option ℕ
-two_digits_number high low = (if is_digit high && is_digit low then Some ((high - 48) * 10 + (low - 48)) else None)
+two_digits_number high low = (if is_ascii_digit high && is_ascii_digit low then Some ((high - 48) * 10 + (low - 48)) else None)
 
 abbrev pub two_pairs : Option ℕ → Option ℕ → Option ℕ
 two_pairs None low = None

@@ -1,11 +1,11 @@
 //! The fields of messages in the style of ISO 8583:1987: which ones a bitmap names, and where each ends.
 ghost use Rattle.std.specs.Prelude.{◌≡◌, ◌<◌, ◌≤◌, IfSome, length, option_map};
 ghost use Rattle.message_words.specs.Fields as spec;
-ghost use Rattle.report_lines.specs.Parts.{is_digit as is_decimal_digit};
+ghost use Rattle.report_lines.specs.Parts.{is_ascii_digit};
 
 /// Whether a character is a decimal digit.
 fn is_digit(byte: u8) -> bool
-    ensures { result ≡ is_decimal_digit byte }
+    ensures { result ≡ is_ascii_digit byte }
 {
     48 <= byte && byte <= 57
 }

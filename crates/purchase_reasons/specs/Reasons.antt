@@ -19,10 +19,10 @@ abbrev pub asked_because : Kind → Reason → Bool → List ℕ → List Piece
 asked_because asked reason second code = text (kind_name asked) ++ text (codes " because ") ++ cited_reason reason second code
 
 -- the first question
-abbrev pub first_because : Option Kind → Option Reason → List Piece
-first_because None reason = text (codes "it asked for no cryptogram")
-first_because (Some asked) None = text (codes "it asked for no cryptogram")
-first_because (Some asked) (Some reason) = text (codes "it asked for ") ++ asked_because asked reason false (codes "--")
+abbrev pub first_asked_because : Option Kind → Option Reason → List Piece
+first_asked_because None reason = text (codes "it asked for no cryptogram")
+first_asked_because (Some asked) None = text (codes "it asked for no cryptogram")
+first_asked_because (Some asked) (Some reason) = text (codes "it asked for ") ++ asked_because asked reason false (codes "--")
 
 -- the second one
 abbrev pub then_because : LaneState → Option Kind → Option Reason → List Piece
@@ -33,7 +33,7 @@ then_because talk (Some asked) (Some reason) = text (codes ", then for ") ++ ask
 -- what the terminal asked for, and why
 abbrev pub terminal_words : Followed → LaneState → List Piece
 terminal_words f talk =
-    line 1 ++ text (codes "terminal: ") ++ first_because f.asked f.reason ++ (if talk.second then then_because talk talk.asked talk.reason else [])
+    line 1 ++ text (codes "terminal: ") ++ first_asked_because f.asked f.reason ++ (if talk.second then then_because talk talk.asked talk.reason else [])
 
 -- what the card answered, and why
 abbrev pub card_first : Option Kind → Option Kind → Facts → List Piece

@@ -20,7 +20,7 @@ fn tell_because(out: &mut WordLines, asked: Kind, reason: Reason, second: bool, 
 
 /// Tells the first question of this kind, where its reason is known.
 fn tell_first_because(out: &mut WordLines, asked: Kind, reason: Option<Reason>)
-    ensures { Tells out.old out.new (spec.first_because (Some asked) reason) }
+    ensures { Tells out.old out.new (spec.first_asked_because (Some asked) reason) }
 {
     match reason {
         Some(reason) => {
@@ -33,7 +33,7 @@ fn tell_first_because(out: &mut WordLines, asked: Kind, reason: Option<Reason>)
 
 /// Tells the first question.
 fn tell_first_asked(out: &mut WordLines, asked: Option<Kind>, reason: Option<Reason>)
-    ensures { Tells out.old out.new (spec.first_because asked reason) }
+    ensures { Tells out.old out.new (spec.first_asked_because asked reason) }
 {
     match asked {
         Some(asked) => tell_first_because(out, asked, reason),

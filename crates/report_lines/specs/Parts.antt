@@ -20,8 +20,8 @@ abbrev pub split_comma : List ℕ → List ℕ × List ℕ
 split_comma text = split_at 44 text
 
 -- a decimal digit
-abbrev pub is_digit : ℕ → Bool
-is_digit byte = nat_le 48 byte && nat_le byte 57
+abbrev pub is_ascii_digit : ℕ → Bool
+is_ascii_digit byte = nat_le 48 byte && nat_le byte 57
 
 -- the number of decimal digits, or the greatest of 64 bits where it is above that
 abbrev pub digits_number : List ℕ → ℕ
@@ -29,4 +29,4 @@ digits_number digits = min (fold (λ n digit. n * 10 + (digit - 48)) 0 digits) (
 
 -- the number of 1 to 18 decimal digits
 unfoldable pub decimal_number : List ℕ → Option ℕ
-decimal_number text = (if not (length text == 0) && (nat_le (length text) 18 && list_all is_digit text) then Some (digits_number text) else None)
+decimal_number text = (if not (length text == 0) && (nat_le (length text) 18 && list_all is_ascii_digit text) then Some (digits_number text) else None)

@@ -91,8 +91,8 @@ abbrev pub is_word : List ℕ → List ℕ → Bool
 is_word word characters = bytes_eq word characters
 
 -- what stands behind a text that begins so
-abbrev pub behind : List ℕ → List ℕ → Option (List ℕ)
-behind front text = (if bytes_eq (take (length front) text) front then Some (drop (length front) text) else None)
+abbrev pub text_behind : List ℕ → List ℕ → Option (List ℕ)
+text_behind front text = (if bytes_eq (take (length front) text) front then Some (drop (length front) text) else None)
 
 -- a cause without a word of its own behind it
 abbrev pub stands_alone : List ℕ → Bool
@@ -120,7 +120,7 @@ ending_in text =
 
 -- the value of a field that is named so, and what stands behind it
 abbrev pub field_in : List ℕ → List ℕ → Option (List ℕ × List ℕ)
-field_in name text = let word = split_word text in option_map (λ value. (value, word.1)) (behind name word.0)
+field_in name text = let word = split_word text in option_map (λ value. (value, word.1)) (text_behind name word.0)
 
 -- `tvr=.. tsi=.. cvm=.. arc=.. atc=.. ac=.. scripts=..`
 unfoldable pub fields_in : List ℕ → Option EndLineFields

@@ -45,8 +45,8 @@ pub fn split_at_comma(text: &[u8]) -> (&[u8], &[u8])
 }
 
 /// Whether a byte is a decimal digit.
-fn is_digit(byte: u8) -> bool
-    ensures { result ≡ spec.is_digit byte }
+fn is_ascii_digit(byte: u8) -> bool
+    ensures { result ≡ spec.is_ascii_digit byte }
 {
     b'0' <= byte && byte <= b'9'
 }
@@ -66,9 +66,9 @@ fn digits_number(digits: &[u8]) -> u64
 
 /// Whether each byte is a decimal digit.
 fn are_digits(text: &[u8]) -> bool
-    ensures { result ≡ list_all spec.is_digit text.now }
+    ensures { result ≡ list_all spec.is_ascii_digit text.now }
 {
-    text.iter().all(|byte| is_digit(*byte))
+    text.iter().all(|byte| is_ascii_digit(*byte))
 }
 
 /// The number that a text of 1 to 18 decimal digits writes.
