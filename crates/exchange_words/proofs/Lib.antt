@@ -1,7 +1,6 @@
 pub mod Asking
 pub mod Deep
 pub mod Pins
-pub mod Rows
 pub mod Samples
 pub mod Scripts
 pub mod Unanswered

@@ -209,20 +209,14 @@ words_of lane bytes (Some command) row brief =
 unfoldable pub words_of_command : LaneState → List ℕ → Option Row → Bool → List Piece
 words_of_command lane bytes row brief = words_of lane bytes (command_of bytes) row brief
 
--- what a command leaves: itself; SELECT its name, GENERATE AC its data and why it was sent
-abbrev pub with_name : LaneState → CommandData → LaneState
-with_name lane command = (if command.ins == 0xA4 then record lane { name = record { items = kept_if_short 16 command.body } } else lane)
-
+-- what a command leaves: itself; GENERATE AC its data and why it was sent
 abbrev pub left_own : LaneState → CommandData → Option Row → LaneState
 left_own lane command row =
     if command.ins == 0xAE then with_reason (with_question lane command.body) row (kind_of command.p1) else lane
 
 abbrev pub lane_behind_command : LaneState → Option CommandData → Option Row → LaneState
 lane_behind_command lane None row = lane
-lane_behind_command lane (Some command) row =
-    if command.class == 0x00 then with_name lane command
-    else if command.class == 0x80 then left_own lane command row
-    else lane
+lane_behind_command lane (Some command) row = (if command.class == 0x80 then left_own lane command row else lane)
 
 -- what a command leaves for the lines behind it
 unfoldable pub left_by_command : LaneState → List ℕ → Option Row → LaneState

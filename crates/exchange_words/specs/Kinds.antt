@@ -22,6 +22,7 @@ or_empty (Err fault) = []
 abbrev pub parts_of_one : List ℕ → Option (ℕ × List ℕ)
 parts_of_one value = (if nat_lt (length value) 11 then None else Some (slice_index value 0, drop 11 value))
 
+-- the value of the first object of a tag; nothing where there is none, or no whole objects
 abbrev pub value_or_empty : ℕ → List ℕ → List ℕ
 value_or_empty tag objects = or_empty (found_value tag (items_of objects))
 

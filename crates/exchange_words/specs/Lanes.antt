@@ -16,7 +16,6 @@ no_codes = record { denial = None; online = None; default = None }
 abbrev pub fresh : LaneState
 fresh = record {
   command = no_bytes;
-  name = no_bytes;
   selected = no_bytes;
   pdol = no_bytes;
   cdol1 = no_bytes;

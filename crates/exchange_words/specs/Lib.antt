@@ -4,5 +4,4 @@ pub mod Commands
 pub mod Kinds
 pub mod Lanes
 pub mod Learned
-pub mod Terminals
 pub mod Torn

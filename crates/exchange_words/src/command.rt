@@ -215,15 +215,6 @@ fn tell_own(
     }
 }
 
-/// Keeps the name of SELECT.
-fn keep_name(lane: &mut LaneState, command: &Command<'_>)
-    ensures left { lane.new ≡ words.with_name lane.old (seen_command command.now) }
-{
-    if command.ins == 0xa4 {
-        keep(&mut lane.name, command.body);
-    }
-}
-
 /// Tells a command of the class 00.
 fn tell_common(out: &mut WordLines, command: &Command<'_>, brief: bool)
     ensures { Tells out.old out.new (words.common_words (seen_command command.now) brief) }
@@ -257,10 +248,7 @@ fn tell_known(
 {
     match read_command(bytes) {
         Ok(command) => match command.class {
-            0x00 => {
-                keep_name(lane, &command);
-                tell_common(out, &command, brief);
-            }
+            0x00 => tell_common(out, &command, brief),
             0x80 => tell_own(out, lane, &command, row, brief),
             _ => tell_other(out, bytes, &command),
         },

@@ -22,7 +22,7 @@ pub fn kind_name(kind: Kind) -> &'static [u8]
 }
 
 /// The first object of this tag; nothing where there is none, or no whole objects.
-fn value_or_empty(objects: &[u8], tag: u32) -> &[u8]
+pub fn value_or_empty(objects: &[u8], tag: u32) -> &[u8]
     ensures { result.now ≡ spec.value_or_empty tag objects.now }
 {
     match first_value(objects, Tag(tag)) {

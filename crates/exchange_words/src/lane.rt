@@ -11,8 +11,6 @@ use value_words::{CardCodes, Reason};
 pub struct LaneState {
     /// The last command.
     pub command: ArrayVec<u8, 261>,
-    /// The name of the last SELECT.
-    pub name: ArrayVec<u8, 16>,
     /// The last answer to SELECT.
     pub selected: ArrayVec<u8, 258>,
     /// The lists 9F38, 8C and 8D.
@@ -56,7 +54,6 @@ impl LaneState {
     {
         LaneState {
             command: ArrayVec::new(),
-            name: ArrayVec::new(),
             selected: ArrayVec::new(),
             pdol: ArrayVec::new(),
             cdol1: ArrayVec::new(),
@@ -81,7 +78,6 @@ impl LaneState {
         ensures { self.new ≡ spec.fresh }
     {
         self.command.clear();
-        self.name.clear();
         self.selected.clear();
         self.pdol.clear();
         self.forget_lists();

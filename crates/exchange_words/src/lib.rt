@@ -1,6 +1,5 @@
 //! What a terminal and a card say to each other, in words: commands and answers, the kind of cryptogram that is
-//! answered, a command without an answer, and what is kept of a lane for the lines behind. And what is known
-//! of a lane's terminal beside the report.
+//! answered, a command without an answer, and what is kept of a lane for the lines behind.
 #![tactic(auto)]
 
 pub mod answer;
@@ -12,15 +11,13 @@ pub mod kind;
 pub mod lane;
 pub mod learn;
 pub mod phrases;
-pub mod terminal;
 pub mod torn;
 
 pub use answer::tell_answer;
 pub use because::tell_cited_reason;
 pub use command::tell_command;
 pub use cryptogram::first_fields;
-pub use kind::{kind_name, tell_kind};
+pub use kind::{kind_name, tell_kind, value_or_empty};
 pub use lane::{LaneState, keep};
 pub use learn::find_deep;
-pub use terminal::{Terminal, row_for};
 pub use torn::tell_torn;

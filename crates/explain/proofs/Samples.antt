@@ -3,7 +3,7 @@ use Rattle.std.proofs.Common.{◌≡◌, true, [], ◌∷◌, codes, Some, None,
 use Rattle.purchase_reasons.specs.declared.limits.CardApp.{CardApp}
 use Rattle.value_words.specs.declared.asking.Reach.TheVariants.{Both}
 use Rattle.hex.specs.Hex.{decode_pairs}
-use Rattle.exchange_words.specs.declared.terminal.Terminal.{Terminal}
+use Rattle.narrator.specs.declared.terminal.Terminal.{Terminal}
 use Rattle.narrator.specs.State.{Manner}
 use Rattle.report_lines.specs.Parts.{split_at, decimal_number}
 use Rattle.explain.specs.Grammar.{app_name_of, sized_number, terminal_row_in, terminal_of, limits_in, card_app_of, option_alone, option_with_argument, options_given, manner_of_words}

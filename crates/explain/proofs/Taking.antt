@@ -2,7 +2,7 @@
 use Rattle.std.proofs.Common.{◌≡◌, ℕ, ◌≤◌, ◌<◌, Bool, true, false, List, [], ◌∷◌, ◌++◌, length, map, drop, get_or, Option, Some, None, refl, sym, ap, ◌∙◌, subst, append_assoc, append-nil, arith}
 use Rattle.std.specs.List.{flat_map}
 use Rattle.std.proofs.lemmas.Option.{same_Some}
-use Rattle.exchange_words.specs.declared.terminal.Terminal.{Terminal}
+use Rattle.narrator.specs.declared.terminal.Terminal.{Terminal}
 use Rattle.issuer_reasons.specs.declared.account.Account.{Account}
 use Rattle.purchase_reasons.specs.declared.limits.CardApp.{CardApp}
 use Rattle.narrator.specs.State.{Manner}

@@ -7,7 +7,7 @@ use Rattle.value_words.specs.Codes.{reach_of}
 use Rattle.value_words.specs.declared.asking.Reach.{Reach}
 use Rattle.value_words.specs.declared.asking.Row.{Row}
 use Rattle.exchange_words.specs.Lanes.{kept_if_short}
-use Rattle.exchange_words.specs.declared.terminal.Terminal.{Terminal}
+use Rattle.narrator.specs.declared.terminal.Terminal.{Terminal}
 use Rattle.issuer_reasons.specs.declared.account.Account.{Account}
 use Rattle.purchase_reasons.specs.declared.limits.CardApp.{CardApp}
 use Rattle.purchase_reasons.specs.declared.limits.Limits.{Limits}

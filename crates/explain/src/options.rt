@@ -8,9 +8,9 @@ ghost use Rattle.explain.specs.Taking.{options_behind, with_option};
 ghost use Rattle.explain.specs.ToldLines.{manner_in};
 
 use arrayvec::ArrayVec;
-use exchange_words::{Terminal, keep};
+use exchange_words::keep;
 use issuer_reasons::Account;
-use narrator::Filter;
+use narrator::{Filter, Terminal};
 use purchase_reasons::{CardApp, Limits};
 use report_lines::{number_of, split_at_comma};
 use std::alloc::Global;

@@ -12,11 +12,11 @@ use Rattle.report_lines.specs.Bytes.{bytes_told}
 use Rattle.report_lines.specs.Parts.{split_at, decimal_number}
 use Rattle.report_lines.specs.Reading.{line_in}
 use Rattle.value_words.specs.Statuses.{status_word, answer_word}
-use Rattle.exchange_words.specs.Terminals.{row_for}
 use Rattle.exchange_words.specs.Torn.{command_name, may_keep}
 use Rattle.exchange_words.specs.Answers.{words_of_answer}
 use Rattle.exchange_words.specs.Commands.{words_of_command, left_by_command}
 use Rattle.narrator.specs.State.{Manner, StateData, start}
+use Rattle.narrator.specs.Terminals.{row_for}
 use Rattle.narrator.specs.Words.{words_by, state_by}
 
 -- all words, and nothing is known of the terminals

@@ -3,8 +3,6 @@ use Rattle.std.specs.Prelude.{ℕ, List, [], replicate, slice_get, slice_set, Bo
 use Rattle.exchange_words.specs.Answers.{left_by_answer}
 use Rattle.exchange_words.specs.Commands.{left_by_command}
 use Rattle.exchange_words.specs.Lanes.{fresh, without_command}
-use Rattle.exchange_words.specs.Terminals.{row_for}
-use Rattle.exchange_words.specs.declared.terminal.Terminal.{Terminal}
 use Rattle.message_words.specs.Messages.{code_in, settled_by}
 use Rattle.message_words.specs.declared.host.Settled.TheVariants.{Nothing}
 use Rattle.message_words.specs.Cards.{kept_cards}
@@ -20,9 +18,12 @@ use Rattle.purchase_reasons.specs.declared.limits.CardApp.{CardApp}
 use Rattle.purchase_reasons.specs.declared.limits.ChangedLimits.{ChangedLimits}
 use Rattle.report_lines.specs.Bytes.{bytes_told}
 use Rattle.report_lines.specs.Reading.{LineData, WhatData, WhoseData, Lane, Settlement, Audit, Report, Power, PowerTorn, PowerCanned, Sent, Given, Torn, ToHost, FromHost, NoReply, End, Lost}
+use Rattle.narrator.specs.Selections.{nothing_selected, selection_asked, selection_answered}
+use Rattle.narrator.specs.Terminals.{row_for}
 use Rattle.narrator.specs.declared.filter.Filter.{Filter}
 use Rattle.narrator.specs.declared.narrator.Narrator.{Narrator}
 use Rattle.narrator.specs.declared.past.LanePast.{LanePast}
+use Rattle.narrator.specs.declared.terminal.Terminal.{Terminal}
 
 -- how lines are told: which are left and how much of them, and what is known of terminals, cards and accounts beside the
 -- report
@@ -51,7 +52,7 @@ seen_state n = record { lanes = n.lanes.items; cards = n.cards.items; changed = 
 
 -- of a lane before its first line
 abbrev pub untold : LanePast
-untold = record { talk = fresh; followed = nothing_followed; settled = Nothing; last_end = 0 }
+untold = record { talk = fresh; selection = nothing_selected; followed = nothing_followed; settled = Nothing; last_end = 0 }
 
 abbrev pub changed_at : (LanePast → LanePast) → List LanePast → ℕ → Option LanePast → List LanePast
 changed_at change lanes place None = lanes
@@ -67,7 +68,7 @@ lane_ended_purchase number past = record past { last_end = number }
 
 -- a card is powered up: nothing is left of the last one
 abbrev pub lane_begun : List ℕ → LanePast → LanePast
-lane_begun card past = record past { talk = fresh; followed = followed_from card }
+lane_begun card past = record past { talk = fresh; selection = nothing_selected; followed = followed_from card }
 
 -- the limits that the scripts of a lane's purchase have set are kept
 abbrev pub limits_of_lane : List ChangedLimits → Option LanePast → List ChangedLimits
@@ -92,14 +93,18 @@ state_powered card apps state place = record (state_changed (lane_begun card) st
 -- a command, behind what is known of the application's row at the terminal
 abbrev pub lane_asked : List Terminal → ℕ → List ℕ → LanePast → LanePast
 lane_asked terminals place bytes past =
-    let talk = left_by_command past.talk bytes (row_for terminals place past.talk.name.items) in
-    record past { talk = talk; followed = with_first_question talk past.followed }
+    let talk = left_by_command past.talk bytes (row_for terminals place past.selection) in
+    record past { talk = talk; selection = selection_asked bytes past.selection; followed = with_first_question talk past.followed }
 
 -- an answer to the last command
 abbrev pub lane_answered : List ℕ → LanePast → LanePast
 lane_answered bytes past =
     let talk = left_by_answer (without_command past.talk) past.talk.command.items bytes in
-    record past { talk = talk; followed = with_answer past.talk.command.items bytes (with_first_question talk past.followed) }
+    record past {
+      talk = talk;
+      selection = selection_answered past.talk.command.items bytes past.selection;
+      followed = with_answer past.talk.command.items bytes (with_first_question talk past.followed);
+    }
 
 -- a reply of the issuer: its response code
 abbrev pub lane_replied : List ℕ → LanePast → LanePast

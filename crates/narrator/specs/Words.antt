@@ -6,9 +6,7 @@ use Rattle.value_words.specs.declared.codes.TheConstants.{REFUSALS}
 use Rattle.exchange_words.specs.Answers.{words_of_answer}
 use Rattle.exchange_words.specs.Commands.{words_of_command}
 use Rattle.exchange_words.specs.Lanes.{without_command}
-use Rattle.exchange_words.specs.Terminals.{row_for}
 use Rattle.exchange_words.specs.Torn.{torn_words}
-use Rattle.exchange_words.specs.declared.terminal.Terminal.{Terminal}
 use Rattle.purchase_reasons.specs.Kept.{CardsData}
 use Rattle.purchase_reasons.specs.Left.{cards_left}
 use Rattle.purchase_reasons.specs.Reasons.{reasons_words}
@@ -22,8 +20,10 @@ use Rattle.report_lines.specs.Reading.{LineData, WhatData, WhoseData, EndingData
 use Rattle.ending_words.specs.Endings.{break_words, end_words, hex_number}
 use Rattle.narrator.specs.Filters.{is_left_by_filters, shows_all}
 use Rattle.narrator.specs.State.{Manner, StateData, state_left_by, audit_place}
+use Rattle.narrator.specs.Terminals.{row_for}
 use Rattle.narrator.specs.declared.filter.Filter.{Filter}
 use Rattle.narrator.specs.declared.past.LanePast.{LanePast}
+use Rattle.narrator.specs.declared.terminal.Terminal.{Terminal}
 use Rattle.narrator.specs.declared.phrases.TheConstants.{POWER_TORN, POWER_CANNED, CARD_GONE, NO_REPLY, PURCHASE_LOST, TRACE_DIFFERS, OR_MISSING}
 
 -- a line of a lane or of the audit: the card is pulled out or has canned answers as it is powered up, has none left; no
@@ -56,7 +56,7 @@ differs_words entry = line 1 ++ text TRACE_DIFFERS.now ++ number entry ++ text O
 
 -- a command, an answer, a message to the issuer and its reply, behind what the lane's lines before them left
 abbrev pub sent_words : Bool → List Terminal → ℕ → List ℕ → LanePast → List Piece
-sent_words brief terminals place bytes past = words_of_command past.talk bytes (row_for terminals place past.talk.name.items) brief
+sent_words brief terminals place bytes past = words_of_command past.talk bytes (row_for terminals place past.selection) brief
 
 -- an answer in words, behind what the lane's lines left
 abbrev pub given_words : Bool → List ℕ → LanePast → List Piece

@@ -7,7 +7,10 @@ pub mod narrator;
 pub mod past;
 pub mod phrases;
 pub mod report;
+pub mod selection;
+pub mod terminal;
 
 pub use filter::Filter;
 pub use narrator::Narrator;
 pub use past::LanePast;
+pub use terminal::Terminal;

@@ -13,11 +13,10 @@ ghost use Rattle.report_lines.specs.Lines.{AreWordLines};
 ghost use Rattle.report_lines.specs.Pieces.{Tells};
 
 use crate::alone::tell_alone;
-use crate::filter::Filter;
-use crate::past::LanePast;
 use crate::report::tell_of_report;
+use crate::{Filter, LanePast, Terminal};
 use ending_words::tell_end;
-use exchange_words::{Terminal, tell_torn};
+use exchange_words::tell_torn;
 use issuer_reasons::{Account, Charge, KnownAccounts, Reply, reply_of};
 use message_words::{CardSeen, tell_power};
 use purchase_reasons::kept::Cards;

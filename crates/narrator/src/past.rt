@@ -4,7 +4,9 @@ ghost use Rattle.narrator.specs.State as state;
 ghost use Rattle.narrator.specs.Words as spec;
 ghost use Rattle.report_lines.specs.Pieces.{Tells};
 
-use exchange_words::{LaneState, Terminal, first_fields, row_for, tell_answer, tell_command};
+use crate::selection::Selection;
+use crate::terminal::{Terminal, row_for};
+use exchange_words::{LaneState, first_fields, tell_answer, tell_command};
 use issuer_reasons::Reply;
 use message_words::{Settled, code_in, settled_by, tell_call, tell_reply};
 use purchase_reasons::Followed;
@@ -16,6 +18,8 @@ use std::mem;
 pub struct LanePast {
     /// What commands and answers left since the lane's card was powered up.
     pub talk: LaneState,
+    /// What SELECT asked for and was given since then.
+    pub selection: Selection,
     /// What is followed of the purchase for its reasons.
     pub followed: Followed,
     /// The last message of the settlement.
@@ -31,6 +35,7 @@ impl LanePast {
     {
         LanePast {
             talk: LaneState::new(),
+            selection: Selection::new(),
             followed: Followed::new(),
             settled: Settled::Nothing,
             last_end: 0,
@@ -42,6 +47,7 @@ impl LanePast {
         ensures { self.new ≡ state.lane_begun card.now self.old }
     {
         self.talk.begin();
+        self.selection = Selection::new();
         self.followed.begin(card);
     }
 
@@ -78,7 +84,8 @@ impl LanePast {
         ensures words { Tells out.old out.new (spec.sent_words brief terminals.now place bytes.now self.old) }
         ensures state { self.new ≡ state.lane_asked terminals.now place bytes.now self.old }
     {
-        let row = row_for(terminals, place, self.talk.name.as_slice());
+        let row = row_for(terminals, place, &self.selection);
+        self.selection.note_command(bytes);
         tell_command(out, &mut self.talk, bytes, row, brief);
         self.followed.note_question(&self.talk);
     }
@@ -92,6 +99,7 @@ impl LanePast {
         tell_answer(out, &mut self.talk, command.as_slice(), bytes, brief);
         self.followed.note_question(&self.talk);
         self.followed.note_answer(command.as_slice(), bytes);
+        self.selection.note_given(command.as_slice(), bytes);
     }
 
     /// Tells a message to the issuer.

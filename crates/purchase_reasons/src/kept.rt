@@ -2,7 +2,6 @@
 //! approved.
 ghost use Rattle.std.specs.Prelude.{◌≡◌, ◌<◌, length, position, option_map, OnOk, IfSome};
 ghost use Rattle.message_words.specs.Cards.{card_place, seen_before};
-ghost use Rattle.exchange_words.specs.Kinds.{value_or_empty as object_or_empty};
 ghost use Rattle.value_words.specs.Fields.{fields_of};
 ghost use Rattle.purchase_reasons.specs.Kept as spec;
 
@@ -11,9 +10,9 @@ use crate::followed::Followed;
 use crate::limits::{CardApp, ChangedLimits, Limit, Limits};
 use apdu_core::read_response;
 use arrayvec::ArrayVec;
-use ber_tlv::{Tag, first_value, sole_value};
+use ber_tlv::{Tag, sole_value};
 use emv_dict::amount_of;
-use exchange_words::{LaneState, first_fields, keep};
+use exchange_words::{LaneState, first_fields, keep, value_or_empty};
 use issuer_reasons::{Charge, Wanted, charge_approved};
 use message_words::CardSeen;
 use message_words::cards::Counters;
@@ -34,22 +33,12 @@ pub struct Cards<'a> {
     pub seen: &'a [CardSeen],
 }
 
-/// The first object of this tag; nothing where there is none, or no whole objects.
-fn found_or_empty(objects: &[u8], tag: u32) -> &[u8]
-    ensures { result.now ≡ object_or_empty tag objects.now }
-{
-    match first_value(objects, Tag(tag)) {
-        Ok(Some(value)) => value,
-        _ => &[],
-    }
-}
-
 /// The name in the body of an answer to SELECT.
 fn name_in_body(body: &[u8]) -> &[u8]
     ensures { result.now ≡ spec.name_in_body body.now }
 {
     match sole_value(body, Tag(0x6f)) {
-        Some(template) => found_or_empty(template, 0x84),
+        Some(template) => value_or_empty(template, 0x84),
         None => &[],
     }
 }
