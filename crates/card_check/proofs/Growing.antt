@@ -1,6 +1,6 @@
 -- One purchase's line more, and one lane's lines more.
-use Rattle.std.proofs.Common.{◌≡◌, ℕ, ◌+◌, ◌<◌, List, [], ◌∷◌, ◌++◌, length, drop, get_or, map, slice_get, Option, Some, None, option_map, refl, ap, sym, ◌∙◌, append_assoc, subst, arith}
-use Rattle.std.proofs.lemmas.List.{drop_more, length-map}
+use Rattle.std.proofs.Common.{◌≡◌, ℕ, ◌+◌, ◌<◌, List, ◌∷◌, ◌++◌, length, drop, get_or, slice_get, Option, Some, option_map, refl, ap, sym, ◌∙◌, append_assoc, subst, arith}
+use Rattle.std.proofs.lemmas.List.{drop_more}
 use Rattle.std.proofs.lemmas.Option.{slice_get-map, slice_get_read}
 use Rattle.card_check.specs.Verdicts.{verdict_line_text, verdict_line_with, lines_text, lane_text, lanes_text}
 use Rattle.emv_dict.specs.Views.{SettingsData}

@@ -1,4 +1,5 @@
 mod Clashes
+mod Endings
 mod Growing
 mod Opening
 mod Readiness

@@ -1,17 +1,14 @@
 -- A granting answer to GET PROCESSING OPTIONS gives an application's own profile and locator.
-use Rattle.std.proofs.Common.{◌≡◌, ℕ, ◌+◌, ◌≤◌, false, List, [], ◌∷◌, ◌++◌, nat_le, nat_lt, length, take, drop, Option, Some, None, Result, Ok, Err, refl, ap, sym, ◌∙◌, arith, length-append, take_at, drop_at, le-ltb, leb-true, le-leb, true, IsTrue}
+use Rattle.std.proofs.Common.{◌≡◌, ℕ, ◌+◌, ◌≤◌, false, List, [], ◌∷◌, ◌++◌, nat_le, length, Some, None, Result, Ok, Err, ap, sym, ◌∙◌, arith, length-append, le-leb, true}
 use Rattle.auth_message.proofs.Sizes.{written_short}
 use Rattle.apdu_core.specs.Response.{response_of}
-use Rattle.ber_tlv.proofs.SoleItem.{sole_value-written}
-use Rattle.ber_tlv.specs.Direct.{sole_value}
-use Rattle.ber_tlv.specs.Left.{items_of}
 use Rattle.ber_tlv.specs.Written.{written}
 use Rattle.card_cryptogram.specs.Options.{options_body}
-use Rattle.emv_dict.specs.Progress.{Progress, Wants, Stopped, Done, Leads}
+use Rattle.emv_dict.specs.Progress.{Stopped, Done, Leads}
 use Rattle.emv_dict.specs.declared.ending.Cause.{Cause}
 use Rattle.env_map.specs.Entries.{Entries}
 use Rattle.dialogue_laws.proofs.OptionsRead.{one_read}
-use Rattle.read_records.specs.Options.{Opened, profile_and_locator, options_in_format_one, options_by_format, options_in, granted_by, response_said, options_said, after_options, initiated, initiating}
+use Rattle.read_records.specs.Options.{Opened, profile_and_locator, granted_by, response_said, options_said, after_options, initiated, initiating}
 
 -- the body in format 1 has room in an answer
 pub fits_one : (aip afl : List ℕ) → length aip ≡ 2 → length afl ≤ 248 → nat_le (length (options_body 1 aip afl)) 256 ≡ true

@@ -1,5 +1,5 @@
 -- An application of the card that can serve a purchase.
-use Rattle.std.proofs.Common.{◌≡◌, ℕ, zero, suc, ◌<◌, Bool, true, false, not, ◌&&◌, ◌||◌, IsTrue, nat_lt, List, [], ◌∷◌, length, get_or, slice_get, Some, None, Contains, inl, inr, refl, ap, sym, ◌∙◌, arith, lt-ltb, ltb-true}
+use Rattle.std.proofs.Common.{◌≡◌, ℕ, zero, suc, Bool, true, false, not, nat_lt, List, [], ◌∷◌, get_or, slice_get, Some, Contains, inl, inr, refl, ap, sym, ◌∙◌, lt-ltb, ltb-true}
 use Rattle.std.proofs.lemmas.Bool.{and_parts, and_from, or_parts, or_cases, not-true, not_from_false, both_ways}
 use Rattle.std.proofs.lemmas.List.Folds.{Any-from_list_any, list_any_at}
 use Rattle.std.specs.List.{list_any, Any}

@@ -1,18 +1,18 @@
 -- Each record that reading asks for is answered by the application's own.
-use Rattle.std.proofs.Common.{◌≡◌, ℕ, ◌+◌, ◌*◌, ◌/◌, List, [], ◌∷◌, ◌++◌, length, map, drop, Option, Some, None, Result, Ok, Err, refl, ap, sym, ◌∙◌, arith, append_assoc, append-nil, subst}
+use Rattle.std.proofs.Common.{◌≡◌, ℕ, ◌+◌, ◌*◌, List, [], ◌∷◌, ◌++◌, length, map, drop, Option, Some, None, Result, Ok, Err, refl, ap, sym, ◌∙◌, arith, append_assoc, subst}
 use Rattle.std.proofs.lemmas.List.{drop_at, length-map, map-append}
 use Rattle.apdu_core.specs.Command.{record_command}
 use Rattle.card_files.specs.Views.{AppData}
 use Rattle.card_check.specs.Judged.{read_by}
 use Rattle.dialogue_laws.specs.WellFormed.{own_record}
-use Rattle.emv_dict.specs.Progress.{Progress, Wants, Stopped, Done, Leads}
+use Rattle.emv_dict.specs.Progress.{Wants, Stopped, Done, Leads}
 use Rattle.emv_dict.specs.declared.ending.Cause.{Cause}
 use Rattle.env_map.specs.Entries.{Entries}
-use Rattle.object_lists.specs.CardRead.{ReadCard, card_of_objects}
+use Rattle.object_lists.specs.CardRead.{ReadCard}
 use Rattle.object_lists.specs.Checked.{objects_fault}
 use Rattle.read_records.proofs.Stages.{reading-whole}
 use Rattle.read_records.specs.Afl.{RecordPlace}
-use Rattle.read_records.specs.DataRead.{card_unless, card_read, finished, read_on, reading}
+use Rattle.read_records.specs.DataRead.{card_unless, finished, read_on, reading}
 use Rattle.read_records.specs.Options.{Opened}
 use Rattle.read_records.specs.Records.{held_in_all, gathered_all}
 

@@ -1,6 +1,6 @@
 -- The first part of a whole application that one breaks, and the first application that isn't whole.
-use Rattle.std.proofs.Common.{◌≡◌, ℕ, zero, suc, ◌+◌, ◌<◌, ◌≤◌, ◌==◌, ◌&&◌, ◌⊎◌, inl, inr, Bool, true, false, not, nat_lt, if◌then◌else◌, List, [], ◌∷◌, length, slice_get, take, map, Option, Some, None, option_map, Result, Ok, Err, refl, ap, sym, ◌∙◌, arith, eqb-true, eq-eqb, ltb-true, ltb-false, subst}
-use Rattle.std.proofs.lemmas.Bool.{eqb-false, and_parts, and_cases, and_from, not-true, not-false, cases_order}
+use Rattle.std.proofs.Common.{◌≡◌, ℕ, zero, suc, ◌+◌, ◌<◌, ◌≤◌, ◌==◌, ◌⊎◌, inl, inr, Bool, true, false, not, nat_lt, if◌then◌else◌, List, [], ◌∷◌, length, slice_get, take, Option, Some, None, option_map, Result, Ok, Err, refl, ap, sym, ◌∙◌, arith, eqb-true, ltb-true, ltb-false, subst}
+use Rattle.std.proofs.lemmas.Bool.{eqb-false, and_parts, and_cases, cases_order}
 use Rattle.std.proofs.lemmas.List.Elements.{All-nil, All-head, All-tail, All-cons}
 use Rattle.std.specs.List.{All}
 use Rattle.std.specs.Option.{option_or}
@@ -8,7 +8,7 @@ use Rattle.card_app.specs.OwnLists.{cdol_of}
 use Rattle.card_files.specs.Views.{AppData}
 use Rattle.card_check.specs.Judged.{read_by, own_data, is_total, is_matched, is_crowded, fault_by, app_judged_fault, apps_fault}
 use Rattle.card_check.specs.Reasons.{GivesReason, Matches, BreaksApp, IsFirstBroken}
-use Rattle.dialogue_laws.specs.WellFormed.{ReadsOwn, HasWholeData, list_total, own_record}
+use Rattle.dialogue_laws.specs.WellFormed.{ReadsOwn, HasWholeData, list_total}
 use Rattle.card_check.specs.declared.fault.AppFault.{AppFault}
 use Rattle.card_check.specs.declared.fault.AppFault.TheVariants.{Reading, FirstList, SecondList, Locator}
 use Rattle.card_check.specs.declared.fault.CardFault.{CardFault}
@@ -17,7 +17,6 @@ use Rattle.emv_dict.specs.declared.ending.Cause.{Cause}
 use Rattle.env_map.specs.Entries.{value_of}
 use Rattle.object_lists.specs.CardRead.{ReadCard}
 use Rattle.object_lists.specs.DolEntries.{total_of}
-use Rattle.read_records.specs.DataRead.{card_read}
 use Rattle.read_records.specs.Options.{Opened, profile_and_locator}
 
 -- reading the application's own data, in both words

@@ -3,4 +3,3 @@ pub mod Judged
 pub mod Reasons
 pub mod Top
 pub mod Verdicts
-pub mod Statuses

@@ -10,7 +10,6 @@ use Rattle.card_check.specs.declared.fault.AppFault.{AppFault}
 use Rattle.card_check.specs.declared.fault.AppFault.TheVariants.{Reading, FirstList, SecondList, Locator}
 use Rattle.card_check.specs.declared.fault.CardFault.{CardFault}
 use Rattle.card_check.specs.declared.fault.CardFault.TheVariants.{Blocked, Clash, Unserved, App}
-use Rattle.emv_dict.specs.declared.ending.Cause.{Cause}
 use Rattle.env_map.specs.Entries.{value_of}
 use Rattle.object_lists.specs.CardRead.{ReadCard}
 use Rattle.object_lists.specs.DolEntries.{total_of}

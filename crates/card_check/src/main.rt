@@ -6,31 +6,24 @@ mod clashing;
 mod fault;
 mod own;
 mod serving;
-mod status;
 mod top;
 mod validating;
 mod verdicts;
 
 use emv_ports::{StdinSource, StdoutSink};
-use status::Status;
+use line_talk::given_words;
+use std::io;
 use std::process::ExitCode;
-use std::{env, io};
 use top::run;
 
-/// Judges the cards of the document. Where there is no memory for the words, the status says so.
+/// Judges the cards of the document. Where there is no memory for the words, the status is 5; where the words are no
+/// text, 2.
 fn main(rt: HostRuntime) -> ExitCode {
+    let words = match given_words(&rt) {
+        Ok(words) => words,
+        Err(status) => return ExitCode::from(status.code()),
+    };
     let mut source = StdinSource::new(rt.reader());
     let mut sink = StdoutSink::new(io::writer(&rt));
-    let mut words = Vec::new(rt.alloc());
-    match env::args(&rt) {
-        Ok(given) => {
-            for word in given.skip(1) {
-                if words.push(word).is_err() {
-                    return ExitCode::from(Status::OutOfMemory.code());
-                }
-            }
-        }
-        Err(_) => return ExitCode::from(Status::OutOfMemory.code()),
-    }
     ExitCode::from(run(rt.alloc(), &words, &mut source, &mut sink).code())
 }

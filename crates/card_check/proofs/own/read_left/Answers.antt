@@ -1,4 +1,4 @@
-use Rattle.std.proofs.Common.{◌≡◌, ◌∙◌, map}
+use Rattle.std.proofs.Common.{◌∙◌, map}
 use Rattle.card_check.proofs.Walking.{next_asked, stepped, stands_on, done_on, stopped_on}
 use Rattle.card_check.proofs.own.read_left.Goals as goal
 use Rattle.dialogue_laws.specs.WellFormed.{own_record}

@@ -1,4 +1,4 @@
-use Rattle.std.proofs.Common.{◌≡◌, ℕ, List, length, drop, ap, ◌∙◌, arith}
+use Rattle.std.proofs.Common.{ℕ, List, length, drop, ap, ◌∙◌, arith}
 use Rattle.card_check.proofs.Words.{added, words_before, words_behind}
 use Rattle.card_check.proofs.verdicts.push_reading.Goals as goal
 
