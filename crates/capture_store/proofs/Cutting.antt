@@ -17,7 +17,8 @@ use Rattle.torn_store.proofs.Causes.{release_cut_named}
 use Rattle.torn_store.proofs.Outcomes.{has_second}
 use Rattle.torn_store.proofs.Stored.{holds_among, some_writes}
 use Rattle.capture_store.specs.Calls.{Call, called, call_left_at, call_left_by}
-use Rattle.capture_store.specs.ListPages.{Cells, StandsForList, StandsBetweenLists, MayStandForList}
+use Rattle.capture_store.specs.ListPages.{StandsForList, StandsBetweenLists, MayStandForList}
+use Rattle.emv_ports.specs.Cell.{Cells}
 use Rattle.capture_store.specs.SeenCaptureList.{CaptureListSeen, CutsCall}
 use Rattle.capture_store.specs.Spelling.{IsList, IsState, state_of_list, list_of_state}
 

@@ -8,7 +8,8 @@ use Rattle.torn_store.specs.Store.{Stored}
 use Rattle.torn_store.proofs.Outcomes.{has_first}
 use Rattle.torn_store.proofs.Stored.{alike, holds_among}
 use Rattle.capture_store.specs.Calls.{Call, list_found}
-use Rattle.capture_store.specs.ListPages.{Cells, StandsForList, MayStandForList, StandForOneOf}
+use Rattle.capture_store.specs.ListPages.{StandsForList, MayStandForList, StandForOneOf}
+use Rattle.emv_ports.specs.Cell.{Cells}
 use Rattle.capture_store.specs.SeenCaptureList.{OpensList}
 use Rattle.capture_store.specs.Spelling.{IsState, state_of_list, list_of_state}
 use Rattle.capture_store.proofs.Entries.{is_state, same_list}

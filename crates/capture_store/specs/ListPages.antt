@@ -1,13 +1,10 @@
 -- The pages of a terminal and the list of messages that they stand for.
+use Rattle.emv_ports.specs.Cell.{Cells}
 use Rattle.std.specs.Prelude.{ℕ, List, Option, Some, None}
 use Rattle.torn_store.specs.Layout.{recover}
 use Rattle.torn_store.specs.Recovery.{Holds, Between}
 use Rattle.capture_store.specs.Calls.{Call, called}
 use Rattle.capture_store.specs.Spelling.{IsList, state_of_list}
-
--- the cells of the pages: each is sure of a byte, or unsure
-abbrev pub Cells : Type 0
-Cells = List (List (Option ℕ))
 
 -- whatever the unsure cells give, the pages hold the state of the list
 pub record StandsForList (cells : Cells) (list : List (List ℕ)) : Type 0 where

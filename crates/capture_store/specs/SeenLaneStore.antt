@@ -5,7 +5,8 @@ use Rattle.capture_store.specs.Calls.{Call}
 use Rattle.capture_store.specs.ListPages.{MayStandForList}
 use Rattle.capture_store.specs.SeenCaptureList.{CaptureListSeen}
 use Rattle.capture_store.specs.Spelling.{IsList}
-use Rattle.capture_store.specs.StoreRow.{StoreRow, commit_of}
+use Rattle.capture_store.specs.StoreRow.{StoreRow}
+use Rattle.emv_ports.specs.Cut.{commit_of}
 
 abbrev pub LaneStoreSeen : Type 0
 LaneStoreSeen = Option CaptureListSeen

@@ -1,6 +1,7 @@
 -- The store of a lane in the world of a run: its list, a lost call, and how far its opening has come (this project's
 -- own).
-use Rattle.std.specs.Prelude.{ℕ, ◌+◌, ◌==◌, min, Bool, false, if◌then◌else◌, List, [], length, Option, Some, None, unwrap_or, option_map}
+use Rattle.emv_ports.specs.Cut.{commit_of}
+use Rattle.std.specs.Prelude.{ℕ, ◌+◌, ◌==◌, Bool, false, if◌then◌else◌, List, [], length, Option, Some, None, unwrap_or, option_map}
 use Rattle.emv_ports.specs.Cut.{names_commit}
 use Rattle.emv_ports.specs.declared.tear.Tear.{Tear}
 use Rattle.capture_store.specs.Calls.{Call, Adds, Drops, called, list_found, call_left_by}
@@ -21,10 +22,6 @@ pub record StoreRow : Type 0 where
 -- the row of a store that nothing has used
 abbrev pub new_store : StoreRow
 new_store = record { list = []; lost = None; commits = None; due = false; found = None }
-
--- the number of a commit behind an opening, the first one being 1; numbers stop at 255
-abbrev pub commit_of : ℕ → ℕ
-commit_of made = min made 255
 
 abbrev pub commit_next : StoreRow → ℕ
 commit_next row = commit_of (unwrap_or row.commits 0 + 1)

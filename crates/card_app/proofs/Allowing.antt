@@ -10,10 +10,10 @@ use Rattle.card_state.specs.declared.decision.Decision.TheVariants.{PinTry, PinR
 use Rattle.card_state.specs.declared.state.AppState.{AppState}
 use Rattle.card_state.specs.declared.state.CardState.{CardState}
 use Rattle.card_state.proofs.AllowedLemmas.{Allowed-push}
-use Rattle.card_pages.specs.Comparing.{compared, is_equal}
-use Rattle.card_pages.specs.SeenKept.{MayTake}
+use Rattle.card_app.specs.Comparing.{compared, is_equal}
+use Rattle.card_app.specs.SeenKept.{MayTake}
 use Rattle.card_app.specs.SeenReply.{reply_data, MayReply}
-use Rattle.card_pages.specs.declared.comparing.Comparison.{Comparison}
+use Rattle.card_app.specs.declared.comparing.Comparison.{Comparison}
 use Rattle.card_app.specs.declared.reply.Reply.{Reply}
 use Rattle.card_app.specs.declared.reply.Reply.TheVariants.{Plain, Decides, Compares}
 

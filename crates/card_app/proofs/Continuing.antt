@@ -11,8 +11,8 @@ use Rattle.card_state.specs.declared.state.CardState.{CardState}
 use Rattle.emv_ports.specs.Memory.{Memory}
 use Rattle.emv_ports.specs.declared.tear.Tear.{Tear}
 use Rattle.card_app.specs.Answering.{answer_in_phase, card_reply}
-use Rattle.card_pages.specs.Replies.{CardReplyData, answer_said, response_in}
-use Rattle.card_pages.specs.SeenKept.{KeptState, Took, Takes, CutAt, IsDecisionCut}
+use Rattle.card_app.specs.PageReplies.{CardReplyData, answer_said, response_in}
+use Rattle.card_app.specs.SeenKept.{KeptState, Took, Takes, CutAt, IsDecisionCut}
 use Rattle.card_app.specs.SeenCard.{CardSeen, CardOn, Answered, CutOff}
 use Rattle.card_app.specs.SeenReply.{reply_data, LeadsPhase, phase_behind}
 use Rattle.card_app.specs.Session.{Exchange, phase_after_exchange, after_said, phase_of}

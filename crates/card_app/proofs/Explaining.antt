@@ -14,7 +14,7 @@ use Rattle.card_cryptogram.specs.declared.phase.Phase.{Phase}
 use Rattle.card_cryptogram.specs.declared.phase.Phase.TheVariants.{Idle, Directory, Selected, Started, Online, Closed, Done}
 use Rattle.card_files.specs.Files.{opening_of}
 use Rattle.card_files.specs.Views.{AppData, ImageData}
-use Rattle.card_pages.specs.Replies.{CardReplyData, refused}
+use Rattle.card_app.specs.PageReplies.{CardReplyData, refused}
 use Rattle.card_policy.specs.Policy.{approval_of, approves, code_y3, decline_of, first_kind, is_blocked, is_declined_by_status, is_sum_within, online_how, second_kind, unauthenticated, with_how}
 use Rattle.card_state.specs.Totals.{totals}
 use Rattle.card_state.specs.declared.decision.Auth.{Auth}

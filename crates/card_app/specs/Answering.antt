@@ -14,7 +14,7 @@ use Rattle.card_cryptogram.specs.Asked.{is_class}
 use Rattle.card_cryptogram.specs.ScriptHeaders.{plain_order, pin_order, limit_order}
 use Rattle.card_app.specs.Pin.{verify_of}
 use Rattle.card_app.specs.Replies.{with_app}
-use Rattle.card_pages.specs.Replies.{CardReplyData, CardAnswer, refused, answer_said}
+use Rattle.card_app.specs.PageReplies.{CardReplyData, CardAnswer, refused, answer_said}
 use Rattle.card_app.specs.Session.{Exchange, phase_of}
 use Rattle.card_cryptogram.specs.declared.orders.ScriptCommand.TheVariants.{BlockApp, UnblockApp, BlockCard}
 use Rattle.card_cryptogram.specs.declared.phase.Phase.{Phase}

@@ -21,7 +21,7 @@ use Rattle.emv_dict.specs.declared.ending.Kind.{Kind}
 use Rattle.object_lists.specs.DolEntries.{total_of}
 use Rattle.card_app.specs.OwnLists.{cdol_of}
 use Rattle.card_app.specs.Replies.{with_app}
-use Rattle.card_pages.specs.Replies.{CardReplyData, refused, decides}
+use Rattle.card_app.specs.PageReplies.{CardReplyData, refused, decides}
 use Rattle.card_cryptogram.specs.declared.phase.First.{First as FirstData}
 use Rattle.card_cryptogram.specs.declared.phase.Phase.{Phase}
 use Rattle.card_cryptogram.specs.declared.phase.Phase.TheVariants.{Idle, Directory, Selected, Started, Online, Closed, Done}

@@ -2,7 +2,7 @@
 use Rattle.std.specs.Prelude.{◌≡◌, ◌↔◌, ℕ, ◌+◌, ◌&&◌, not, nat_le, Bool, true, false, IsTrue, List, Option, Some, None, slice_get}
 use Rattle.card_cryptogram.specs.Bodies.{kind_in}
 use Rattle.card_files.specs.Views.{AppData, ImageData}
-use Rattle.card_pages.specs.Replies.{CardReplyData}
+use Rattle.card_app.specs.PageReplies.{CardReplyData}
 use Rattle.card_state.specs.Decisions.{Decided}
 use Rattle.card_state.specs.declared.decision.How.{How}
 use Rattle.card_state.specs.declared.decision.How.TheVariants.{Authenticated as ByIssuer, Held, Alone, Offline}

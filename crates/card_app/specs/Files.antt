@@ -13,7 +13,7 @@ use Rattle.card_state.specs.declared.state.AppState.{AppState}
 use Rattle.card_state.specs.declared.state.CardState.{CardState}
 use Rattle.card_state.specs.declared.state.LogRow.{LogRow}
 use Rattle.card_app.specs.Replies.{with_app}
-use Rattle.card_pages.specs.Replies.{CardReplyData, refused, shows}
+use Rattle.card_app.specs.PageReplies.{CardReplyData, refused, shows}
 use Rattle.card_app.specs.Selection.{app_found, directory_asked}
 use Rattle.card_cryptogram.specs.Asked.{is_by_name, is_name_size, is_record_named}
 use Rattle.card_cryptogram.specs.Phases.{current, in_directory}

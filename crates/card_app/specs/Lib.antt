@@ -15,3 +15,9 @@ pub mod SeenIcc
 pub mod Reasons
 pub mod Foretelling
 pub mod Explained
+pub mod Cuts
+pub mod Pages
+pub mod SeenKept
+pub mod PageReplies
+pub mod Comparing
+pub mod Counters

@@ -8,7 +8,7 @@ use Rattle.card_policy.specs.Policy.{may_start}
 use Rattle.card_state.specs.declared.decision.Decision.TheVariants.{Started as TakesCounter}
 use Rattle.card_state.specs.declared.state.AppState.{AppState}
 use Rattle.card_app.specs.OwnLists.{pdol_total}
-use Rattle.card_pages.specs.Replies.{CardReplyData, refused, decides}
+use Rattle.card_app.specs.PageReplies.{CardReplyData, refused, decides}
 
 -- the data is one object 83 alone, with the data of the list
 abbrev pub is_of_size : ℕ → Option (List ℕ) → Bool

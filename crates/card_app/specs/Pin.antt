@@ -3,8 +3,8 @@ use Rattle.std.specs.Prelude.{ℕ, ◌==◌, not, if◌then◌else◌, List, len
 use Rattle.std.specs.Str.{bytes_eq}
 use Rattle.card_files.specs.Views.{AppData}
 use Rattle.card_state.specs.declared.state.AppState.{AppState}
-use Rattle.card_pages.specs.Comparing.{compared, has_pin}
-use Rattle.card_pages.specs.Replies.{CardReplyData, refused}
+use Rattle.card_app.specs.Comparing.{compared, has_pin}
+use Rattle.card_app.specs.PageReplies.{CardReplyData, refused}
 
 unfoldable pub verify_of : ℕ → List ℕ → AppData → AppState → CardReplyData
 verify_of app block a s =

@@ -1,7 +1,7 @@
 -- What an application makes of a command.
 use Rattle.std.specs.Prelude.{ℕ, List, Option, Some, None, slice_get}
 use Rattle.card_files.specs.Views.{AppData}
-use Rattle.card_pages.specs.Replies.{CardReplyData, refused}
+use Rattle.card_app.specs.PageReplies.{CardReplyData, refused}
 use Rattle.card_state.specs.declared.state.AppState.{AppState}
 use Rattle.card_state.specs.declared.state.CardState.{CardState}
 

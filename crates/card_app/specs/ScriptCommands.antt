@@ -10,7 +10,7 @@ use Rattle.card_state.specs.declared.decision.Scripted.TheVariants.{Block, Unblo
 use Rattle.card_state.specs.declared.state.AppState.{AppState}
 use Rattle.card_state.specs.declared.state.CardState.{CardState}
 use Rattle.card_app.specs.Replies.{with_app}
-use Rattle.card_pages.specs.Replies.{CardReplyData, refused, decides}
+use Rattle.card_app.specs.PageReplies.{CardReplyData, refused, decides}
 use Rattle.card_cryptogram.specs.ScriptHeaders.{size_of, limit_to}
 use Rattle.card_cryptogram.specs.declared.orders.ScriptCommand.{ScriptCommand}
 use Rattle.card_cryptogram.specs.declared.orders.ScriptCommand.TheVariants.{BlockApp, UnblockApp, BlockCard, UnblockPin, ChangePin, LimitCount, LimitSum}

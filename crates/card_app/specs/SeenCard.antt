@@ -7,9 +7,9 @@ use Rattle.card_state.specs.Decisions.{Decided}
 use Rattle.emv_ports.specs.Memory.{Memory}
 use Rattle.emv_ports.specs.declared.tear.Tear.{Tear}
 use Rattle.card_app.specs.Answering.{card_answer}
-use Rattle.card_pages.specs.Cuts.{Cut, cut_of}
-use Rattle.card_pages.specs.Pages.{MayStand}
-use Rattle.card_pages.specs.SeenKept.{KeptState, KeptOn, CutAt}
+use Rattle.card_app.specs.Cuts.{Cut, cut_of}
+use Rattle.card_app.specs.Pages.{MayStand}
+use Rattle.card_app.specs.SeenKept.{KeptState, KeptOn, CutAt}
 use Rattle.card_app.specs.Session.{Exchange, phase_of}
 use Rattle.card_cryptogram.specs.declared.phase.Phase.{Phase}
 

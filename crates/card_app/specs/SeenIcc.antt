@@ -6,8 +6,8 @@ use Rattle.card_state.specs.Decisions.{Decided}
 use Rattle.emv_ports.specs.Causes.{one_more}
 use Rattle.emv_ports.specs.declared.tear.Tear.{Tear}
 use Rattle.card_app.specs.Answering.{card_answer}
-use Rattle.card_pages.specs.Cuts.{Cut, cut_of, fate_by, kept_by, pending_by}
-use Rattle.card_pages.specs.Pages.{MayStand}
+use Rattle.card_app.specs.Cuts.{Cut, cut_of, fate_by, kept_by, pending_by}
+use Rattle.card_app.specs.Pages.{MayStand}
 use Rattle.card_app.specs.SeenCard.{CardSeen, CardOn}
 use Rattle.card_app.specs.AtWork.{IsAppThere}
 use Rattle.card_app.specs.Session.{Exchange}

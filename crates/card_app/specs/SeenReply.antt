@@ -2,9 +2,9 @@
 use Rattle.std.specs.Prelude.{◌≡◌, ℕ, ◌<◌, List, length, slice_get, Option, Some}
 use Rattle.apdu_core.specs.Command.{CommandData}
 use Rattle.card_files.specs.Views.{AppData, ImageData}
-use Rattle.card_pages.specs.Comparing.{MayCompare, comparison_reply}
-use Rattle.card_pages.specs.Replies.{CardReplyData, shows, decides}
-use Rattle.card_pages.specs.SeenKept.{MayTake}
+use Rattle.card_app.specs.Comparing.{MayCompare, comparison_reply}
+use Rattle.card_app.specs.PageReplies.{CardReplyData, shows, decides}
+use Rattle.card_app.specs.SeenKept.{MayTake}
 use Rattle.card_state.specs.declared.state.AppState.{AppState}
 use Rattle.card_state.specs.declared.state.CardState.{CardState}
 use Rattle.card_app.specs.AtWork.{IsAppThere}

@@ -9,7 +9,7 @@ ghost use Rattle.emv_ports.specs.Memory.{powered_off};
 ghost use Rattle.emv_ports.specs.declared.tear.Tear.{Tear};
 ghost use Rattle.torn_store.specs.Store.{HasLostPower};
 ghost use Rattle.torn_store.specs.Writing.{LostAt};
-ghost use Rattle.card_pages.specs.Pages.{StandsFor, found_of};
+ghost use Rattle.card_app.specs.Pages.{StandsFor, found_of};
 ghost use Rattle.card_app.specs.SeenCard.{CardOn, AnswersCard, CutsCard, AllowsCard, MayBeCard};
 ghost use Rattle.card_app.specs.Session.{Exchange};
 

@@ -5,7 +5,7 @@ ghost use Rattle.apdu_core.specs.Seen.{seen_command};
 ghost use Rattle.card_files.specs.Files as files;
 ghost use Rattle.card_state.specs.Encoding.{row_bytes};
 ghost use Rattle.card_app.specs.Files as spec;
-ghost use Rattle.card_pages.specs.Replies.{shows};
+ghost use Rattle.card_app.specs.PageReplies.{shows};
 
 use crate::apps::{app_at, state_at};
 use crate::reply::refuse;

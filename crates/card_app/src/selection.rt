@@ -5,7 +5,7 @@ ghost use Rattle.apdu_core.specs.Seen.{seen_command};
 ghost use Rattle.card_files.specs.Directory.{directory_fci as fci_of_directory};
 ghost use Rattle.card_app.specs.Files as files_spec;
 ghost use Rattle.card_app.specs.Replies.{with_app};
-ghost use Rattle.card_pages.specs.Replies.{shows};
+ghost use Rattle.card_app.specs.PageReplies.{shows};
 ghost use Rattle.card_app.specs.AtWork.{IsAppThere};
 ghost use Rattle.card_app.specs.SeenReply.{MakesReply, ObeysRow};
 ghost use Rattle.card_app.specs.Selection as spec;

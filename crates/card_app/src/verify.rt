@@ -16,7 +16,7 @@ use apdu_core::status::{
 };
 use card_cryptogram::{Phase, block_of};
 use card_files::AppImage;
-use card_pages::{Comparison, has_pin};
+use crate::{Comparison, has_pin};
 use card_state::AppState;
 
 /// P2 of a plain PIN block.

@@ -7,11 +7,11 @@ use Rattle.card_app.specs.SeenCard.{CardSeen}
 use Rattle.card_app.specs.SeenIcc.{IccAnswered, IccCut, IccOn, IccOff, IsIccOff, icc_is_powered}
 use Rattle.card_app.specs.Session.{Exchange}
 use Rattle.card_app.specs.declared.reason.Reason.{Reason}
-use Rattle.card_counters.specs.Counters.{shown_all}
+use Rattle.card_app.specs.Counters.{shown_all}
 use Rattle.card_files.specs.Files.{opening_of}
 use Rattle.card_files.specs.Views.{ImageData}
-use Rattle.card_pages.specs.Cuts.{cut_of, fate_by}
-use Rattle.card_pages.specs.Pages.{found_of}
+use Rattle.card_app.specs.Cuts.{cut_of, fate_by}
+use Rattle.card_app.specs.Pages.{found_of}
 use Rattle.card_state.specs.Decisions.{Decided}
 use Rattle.card_state.specs.Totals.{totals}
 use Rattle.card_state.specs.declared.state.CardState.{CardState}

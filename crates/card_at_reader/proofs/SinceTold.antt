@@ -1,6 +1,7 @@
 -- What is told of a card's decisions, behind one more command.
 use Rattle.std.proofs.Common.{◌≡◌, ℕ, suc, ◌+◌, Bool, true, false, if◌then◌else◌, List, [], ◌∷◌, ◌++◌, length, Option, Some, None, option_map, refl, sym, ap, ◌∙◌, append_assoc, append-nil}
-use Rattle.card_pages.specs.Cuts.{Cut, Dropped, Fate, Joined, Pending, behind_one, commit_of, cut_of, fate_by, kept_by, pending_by}
+use Rattle.card_app.specs.Cuts.{Cut, Dropped, Fate, Joined, Pending, behind_one, cut_of, fate_by, kept_by, pending_by}
+use Rattle.emv_ports.specs.Cut.{commit_of}
 use Rattle.card_state.specs.Decisions.{Decided}
 use Rattle.card_state.specs.Totals.{totals}
 use Rattle.card_state.specs.declared.state.CardState.{CardState}

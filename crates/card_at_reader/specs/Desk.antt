@@ -8,15 +8,15 @@ use Rattle.card_app.specs.Session.{Exchange}
 use Rattle.card_app.specs.declared.reason.Reason.{Reason}
 use Rattle.card_files.specs.Files.{opening_of}
 use Rattle.card_files.specs.Views.{ImageData}
-use Rattle.card_pages.specs.Cuts.{Cut, cut_of, fate_by, kept_by, pending_by}
-use Rattle.card_pages.specs.Pages.{found_of}
+use Rattle.card_app.specs.Cuts.{Cut, cut_of, fate_by, kept_by, pending_by}
+use Rattle.card_app.specs.Pages.{found_of}
 use Rattle.card_state.specs.Decisions.{Decided}
 use Rattle.card_state.specs.Totals.{totals}
 use Rattle.emv_ports.specs.Cut.{names_commit, is_plan}
 use Rattle.emv_ports.specs.declared.tear.Tear.{Tear}
 use Rattle.report_text.specs.Pieces.{hex_or_dash}
 use Rattle.report_text.specs.Text.{all_shown}
-use Rattle.card_counters.specs.Counters.{shown_all}
+use Rattle.card_app.specs.Counters.{shown_all}
 use Rattle.line_talk.specs.Turns.{Opening, Turn}
 use Rattle.line_talk.specs.declared.party.Onward.TheVariants.{Rests}
 use Rattle.card_words.specs.DecisionText.{decided_text}

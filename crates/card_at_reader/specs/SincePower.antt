@@ -1,6 +1,7 @@
 -- What a card has decided since its last power-up.
 use Rattle.std.specs.Prelude.{ℕ, ◌+◌, false, List, [], ◌∷◌, ◌++◌, if◌then◌else◌, Option, Some, None}
-use Rattle.card_pages.specs.Cuts.{Cut, Fate, Dropped, Joined, Pending, commit_of, fate_by, kept_by, pending_by}
+use Rattle.card_app.specs.Cuts.{Cut, Fate, Dropped, Joined, Pending, fate_by, kept_by, pending_by}
+use Rattle.emv_ports.specs.Cut.{commit_of}
 use Rattle.card_state.specs.Decisions.{Decided}
 use Rattle.card_state.specs.Totals.{totals}
 use Rattle.card_state.specs.declared.state.CardState.{CardState}

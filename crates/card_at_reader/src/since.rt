@@ -1,7 +1,8 @@
 //! What is noted of a card's decisions since its power-up.
 ghost use Rattle.std.specs.Prelude.{◌≡◌, ◌+◌, ◌++◌, ◌∷◌, [], List, OnOk, false, length};
 ghost use Rattle.card_app.specs.Foretelling.{decisions_foretold};
-ghost use Rattle.card_pages.specs.Cuts.{commit_of, fate_by};
+ghost use Rattle.card_app.specs.Cuts.{fate_by};
+ghost use Rattle.emv_ports.specs.Cut.{commit_of};
 ghost use Rattle.card_state.specs.Decisions.{Decided};
 ghost use Rattle.card_state.specs.Totals.{totals};
 ghost use Rattle.card_state.specs.declared.state.CardState.{CardState as State};

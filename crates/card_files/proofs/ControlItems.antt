@@ -11,7 +11,8 @@ use Rattle.ber_tlv.specs.Written.{written, tag_bytes, length_bytes}
 use Rattle.ber_tlv.proofs.ReadAgain.{appended_read}
 use Rattle.ber_tlv.proofs.Reading.{Items-left, no_zeros}
 use Rattle.card_files.specs.Control.{Objects, AreObjects, written_some, object_if, value_of_byte, log_entry, proprietary, fci_bytes, IsLogEntry, IsFci}
-use Rattle.card_files.specs.Directory.{directory_name, directory_fci, directory_record_bytes, IsDirectoryFci, IsDirectoryRecord}
+use Rattle.card_files.specs.Directory.{directory_fci, directory_record_bytes, IsDirectoryFci, IsDirectoryRecord}
+use Rattle.emv_dict.specs.Name.{directory_name}
 use Rattle.card_files.specs.Views.{AppData}
 
 -- a tag that a reading can give

@@ -1,13 +1,11 @@
 -- The payment system directory of a card (EMV 4.3 Book 1 sections 12.2.2 and 12.2.3).
+use Rattle.emv_dict.specs.Name.{directory_name}
 use Rattle.std.specs.Prelude.{ℕ, Bool, nat_eq, ◌-◌, if◌then◌else◌, List, [], ◌∷◌, ◌++◌, codes, slice_get, Option, None, option_map}
 use Rattle.std.specs.List.{starts_with}
 use Rattle.std.specs.Str.{bytes_eq}
 use Rattle.ber_tlv.specs.Written.{written}
 use Rattle.card_files.specs.Control.{AreObjects, written_some, value_of_byte, object_if}
 use Rattle.card_files.specs.Views.{AppData, ImageData}
-
-abbrev pub directory_name : List ℕ
-directory_name = codes "1PAY.SYS.DDF01"
 
 -- the directory's name finds this application too: its own name begins with it
 unfoldable pub is_hidden : List ℕ → Bool

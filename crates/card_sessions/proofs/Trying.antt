@@ -23,8 +23,8 @@ use Rattle.card_cryptogram.specs.declared.orders.ScriptCommand.{ScriptCommand}
 use Rattle.card_cryptogram.specs.declared.phase.First.{First as FirstData}
 use Rattle.card_cryptogram.specs.declared.phase.Phase.{Phase}
 use Rattle.card_cryptogram.specs.declared.phase.Phase.TheVariants.{Idle, Directory, Selected, Started, Online, Closed, Done}
-use Rattle.card_pages.specs.Comparing.{compared}
-use Rattle.card_pages.specs.Replies.{CardReplyData, shows, decides}
+use Rattle.card_app.specs.Comparing.{compared}
+use Rattle.card_app.specs.PageReplies.{CardReplyData, shows, decides}
 use Rattle.card_app.specs.Answering.{options_in_phase, options_row, verify_in, verify_row, instruction_row, row_or_refusal, answer_in_phase, card_reply}
 use Rattle.card_app.specs.Cryptograms.{first_for, second_for, generate_in, generate_asked, generate_row, authenticate_for, authenticate_in, authenticate_row}
 use Rattle.card_app.specs.Files.{directory_or, selected_reply, record_or, row_or, is_file, record_for, select_row, record_row, data_object, data_for, data_row, shown_for}

@@ -12,7 +12,7 @@ use Rattle.card_cryptogram.specs.declared.phase.Phase.{Phase}
 use Rattle.card_cryptogram.specs.declared.phase.Phase.TheVariants.{Idle}
 use Rattle.card_files.specs.Files.{opening_of}
 use Rattle.card_files.specs.Views.{ImageData}
-use Rattle.card_pages.specs.Replies.{CardReplyData, response_in}
+use Rattle.card_app.specs.PageReplies.{CardReplyData, response_in}
 use Rattle.card_state.specs.Totals.{totals}
 use Rattle.card_state.specs.declared.state.CardState.{CardState}
 use Rattle.dialogue_laws.specs.Cards.{Now, says, goes}

@@ -9,7 +9,7 @@ use Rattle.card_cryptogram.specs.Bodies.{kind_in}
 use Rattle.card_cryptogram.specs.declared.phase.Phase.{Phase}
 use Rattle.card_cryptogram.specs.declared.phase.Phase.TheVariants.{Started, Online}
 use Rattle.card_files.specs.Views.{AppData, ImageData}
-use Rattle.card_pages.specs.Replies.{CardReplyData}
+use Rattle.card_app.specs.PageReplies.{CardReplyData}
 use Rattle.dialogue_laws.proofs.Answers.{state_at, phase_at, answers, command_again}
 use Rattle.dialogue_laws.proofs.Filled.{list_filled}
 use Rattle.dialogue_laws.proofs.Generating.{AnswersAreReadBack, Holds, generating, given_in, is_read, kind_read, body_short}

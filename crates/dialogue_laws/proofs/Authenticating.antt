@@ -21,7 +21,7 @@ use Rattle.card_cryptogram.specs.declared.phase.Phase.TheVariants.{Online}
 use Rattle.card_files.specs.Views.{AppData, ImageData}
 use Rattle.card_keys.specs.Master.{master_key_of}
 use Rattle.card_keys.specs.Session.{session_ac_of}
-use Rattle.card_pages.specs.Replies.{decides}
+use Rattle.card_app.specs.PageReplies.{decides}
 use Rattle.card_policy.specs.Policy.{is_declined_by_status, online_how}
 use Rattle.card_state.specs.Decisions.{blocks_app, blocks_whole, restores}
 use Rattle.card_state.specs.declared.decision.Auth.{Auth}

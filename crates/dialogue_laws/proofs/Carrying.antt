@@ -23,7 +23,7 @@ use Rattle.card_cryptogram.specs.declared.phase.Phase.{Phase}
 use Rattle.card_cryptogram.specs.declared.phase.Phase.TheVariants.{Idle, Directory, Selected, Started, Online, Closed, Done}
 use Rattle.card_files.specs.Views.{AppData, ImageData}
 use Rattle.card_keys.specs.Session.{session_script_of}
-use Rattle.card_pages.specs.Replies.{refused, decides, answer_said}
+use Rattle.card_app.specs.PageReplies.{refused, decides, answer_said}
 use Rattle.card_state.specs.declared.decision.Decision.TheVariants.{Script}
 use Rattle.card_state.specs.declared.state.AppState.{AppState}
 use Rattle.card_state.specs.declared.state.CardState.{CardState}

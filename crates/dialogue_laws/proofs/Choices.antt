@@ -7,7 +7,8 @@ use Rattle.std.proofs.lemmas.Option.{get_or_from_slice_get, slice_get_within}
 use Rattle.std.proofs.lemmas.Slice.Eq.{bytes_eq-Decides}
 use Rattle.app_select.specs.Candidates.{CandidateData, is_candidate_named, is_allowed}
 use Rattle.card_app.specs.Selection.{directory_asked}
-use Rattle.card_files.specs.Directory.{directory_name, is_hidden}
+use Rattle.card_files.specs.Directory.{is_hidden}
+use Rattle.emv_dict.specs.Name.{directory_name}
 use Rattle.card_files.specs.ImageRules.{AreInSight}
 use Rattle.card_files.specs.Views.{AppData, ImageData}
 use Rattle.card_state.specs.declared.state.AppState.{AppState}

@@ -22,11 +22,12 @@ use Rattle.card_app.specs.Session.{next_phase}
 use Rattle.card_cryptogram.specs.declared.phase.Phase.{Phase}
 use Rattle.card_cryptogram.specs.declared.phase.Phase.TheVariants.{Directory}
 use Rattle.card_files.specs.Control.{fci_bytes}
-use Rattle.card_files.specs.Directory.{directory_name, directory_record_bytes, directory_record}
+use Rattle.card_files.specs.Directory.{directory_record_bytes, directory_record}
+use Rattle.emv_dict.specs.Name.{directory_name}
 use Rattle.card_files.specs.Files.{opening_of}
 use Rattle.card_files.specs.ImageRules.{KeepsRules, IsImage}
 use Rattle.card_files.specs.Views.{AppData, ImageData}
-use Rattle.card_pages.specs.Replies.{CardReplyData, refused, shows}
+use Rattle.card_app.specs.PageReplies.{CardReplyData, refused, shows}
 use Rattle.card_state.specs.Decisions.{Decided}
 use Rattle.card_state.specs.Totals.{totals}
 use Rattle.card_state.specs.declared.state.AppState.{AppState}

@@ -13,7 +13,8 @@ use Rattle.ber_tlv.specs.Left.{items_of}
 use Rattle.ber_tlv.specs.Written.{written}
 use Rattle.card_files.specs.AppRules.{is_name}
 use Rattle.card_files.specs.Control.{fci_bytes, proprietary, log_entry, written_some, value_of_byte}
-use Rattle.card_files.specs.Directory.{directory_name, directory_fci, directory_record_bytes}
+use Rattle.card_files.specs.Directory.{directory_fci, directory_record_bytes}
+use Rattle.emv_dict.specs.Name.{directory_name}
 use Rattle.card_files.specs.ImageRules.{KeepsRules}
 use Rattle.card_files.specs.Views.{AppData}
 use Rattle.dialogue_laws.proofs.Fields.{fields_again}

@@ -10,10 +10,11 @@ use Rattle.card_app.specs.Files.{record_or, is_file, directory_reply, record_row
 use Rattle.card_app.specs.Session.{next_phase}
 use Rattle.card_cryptogram.specs.Asked.{is_record_named}
 use Rattle.card_cryptogram.specs.declared.phase.Phase.TheVariants.{Directory}
-use Rattle.card_files.specs.Directory.{directory_name, directory_record_bytes, directory_record}
+use Rattle.card_files.specs.Directory.{directory_record_bytes, directory_record}
+use Rattle.emv_dict.specs.Name.{directory_name}
 use Rattle.card_files.specs.ImageRules.{KeepsRules, IsImage}
 use Rattle.card_files.specs.Views.{AppData, ImageData}
-use Rattle.card_pages.specs.Replies.{CardReplyData, refused, shows}
+use Rattle.card_app.specs.PageReplies.{CardReplyData, refused, shows}
 use Rattle.dialogue_laws.proofs.Answers.{Answers, answers, command_again, state_at, phase_at}
 use Rattle.dialogue_laws.proofs.Choices.{all_at}
 use Rattle.dialogue_laws.proofs.Directing.{reading}

@@ -12,7 +12,7 @@ use Rattle.card_cryptogram.specs.Bodies.{iad_of, body_one, body_two, body_with, 
 use Rattle.card_cryptogram.specs.declared.fields.TerminalFields.{TerminalFields as GivenData}
 use Rattle.card_cryptogram.specs.declared.phase.Phase.{Phase}
 use Rattle.card_files.specs.Views.{ImageData}
-use Rattle.card_pages.specs.Replies.{CardReplyData}
+use Rattle.card_app.specs.PageReplies.{CardReplyData}
 use Rattle.card_state.specs.declared.state.AppState.{AppState}
 use Rattle.card_state.specs.declared.state.CardState.{CardState}
 use Rattle.emv_dict.specs.Kinds.{kind_byte, kind_of}

@@ -8,7 +8,7 @@ use Rattle.card_app.specs.Replies.{with_both}
 use Rattle.card_app.specs.Session.{next_phase}
 use Rattle.card_cryptogram.specs.declared.phase.Phase.TheVariants.{Started}
 use Rattle.card_files.specs.Views.{AppData, ImageData}
-use Rattle.card_pages.specs.Replies.{CardReplyData, response_in}
+use Rattle.card_app.specs.PageReplies.{CardReplyData, response_in}
 use Rattle.card_state.specs.declared.state.AppState.{AppState}
 use Rattle.dialogue_laws.proofs.Answers.{answers, command_again, state_at, phase_at}
 use Rattle.dialogue_laws.specs.Cards.{Now, says, goes}

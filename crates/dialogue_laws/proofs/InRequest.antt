@@ -7,7 +7,7 @@ use Rattle.card_app.specs.Session.{next_phase}
 use Rattle.card_cryptogram.specs.declared.phase.First.{First}
 use Rattle.card_files.specs.Files.{opening_of}
 use Rattle.card_files.specs.Views.{AppData, ImageData}
-use Rattle.card_pages.specs.Replies.{CardReplyData, decides, answer_said}
+use Rattle.card_app.specs.PageReplies.{CardReplyData, decides, answer_said}
 use Rattle.card_state.proofs.CardLemmas.{totals-longer}
 use Rattle.card_state.specs.Change.{changed}
 use Rattle.card_state.specs.Decisions.{Decided, blocks_card}

@@ -13,7 +13,7 @@ use Rattle.card_app.specs.Session.{next_phase}
 use Rattle.card_cryptogram.specs.declared.phase.Phase.TheVariants.{Directory, Selected, Started}
 use Rattle.card_files.specs.Lists.{entries_within, fitting, is_pdol, is_optional_pdol}
 use Rattle.card_files.specs.Views.{AppData, ImageData}
-use Rattle.card_pages.specs.Replies.{CardReplyData, refused, decides}
+use Rattle.card_app.specs.PageReplies.{CardReplyData, refused, decides}
 use Rattle.card_state.specs.declared.decision.Decision.TheVariants.{Started as TakesCounter}
 use Rattle.card_state.specs.declared.state.AppState.{AppState}
 use Rattle.card_state.specs.declared.state.CardState.{CardState}

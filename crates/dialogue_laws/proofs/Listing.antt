@@ -19,7 +19,7 @@ use Rattle.card_app.specs.Files.{is_behind_directory}
 use Rattle.card_app.specs.Selection.{app_found as finds, first_named, looks_from, directory_asked}
 use Rattle.card_cryptogram.specs.Asked.{is_by_name}
 use Rattle.card_cryptogram.specs.declared.phase.Phase.TheVariants.{Directory, Selected}
-use Rattle.card_files.specs.Directory.{directory_name}
+use Rattle.emv_dict.specs.Name.{directory_name}
 use Rattle.card_files.specs.Files.{opening_of}
 use Rattle.card_files.specs.ImageRules.{KeepsRules, IsImage}
 use Rattle.card_files.specs.Views.{AppData, ImageData}

@@ -13,7 +13,7 @@ use Rattle.card_cryptogram.specs.declared.fields.TerminalFields.{TerminalFields 
 use Rattle.card_cryptogram.specs.declared.phase.First.{First as FirstData}
 use Rattle.card_cryptogram.specs.declared.phase.Phase.TheVariants.{Started, Online}
 use Rattle.card_files.specs.Views.{AppData, ImageData}
-use Rattle.card_pages.specs.Replies.{decides}
+use Rattle.card_app.specs.PageReplies.{decides}
 use Rattle.card_policy.specs.Policy.{first_kind, second_kind, is_blocked, is_absent, is_declined_by_status, approves, code_y3, with_how, online_how, decline_of, unauthenticated}
 use Rattle.card_state.specs.Change.{changed}
 use Rattle.card_state.specs.declared.decision.Auth.{Auth}

@@ -13,7 +13,7 @@ use Rattle.card_files.specs.AppRules.{is_within, has_size, is_record, has_twins,
 use Rattle.card_files.specs.Files.{record_in, has_record_of, record_of, has_file}
 use Rattle.card_files.specs.ImageRules.{KeepsRules}
 use Rattle.card_files.specs.Views.{AppData, RecordData, ImageData}
-use Rattle.card_pages.specs.Replies.{CardReplyData, refused, shows, answer_said}
+use Rattle.card_app.specs.PageReplies.{CardReplyData, refused, shows, answer_said}
 use Rattle.card_state.specs.declared.state.CardState.{CardState}
 use Rattle.emv_dict.specs.declared.ending.Cause.{Cause}
 use Rattle.emv_dict.specs.declared.ending.Cause.TheVariants.{Status}

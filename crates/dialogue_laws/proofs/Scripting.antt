@@ -13,7 +13,7 @@ use Rattle.card_cryptogram.specs.declared.phase.First.{First}
 use Rattle.card_cryptogram.specs.declared.phase.Phase.{Phase}
 use Rattle.card_cryptogram.specs.declared.phase.Phase.TheVariants.{Idle, Directory, Selected, Started, Online, Closed, Done as IsDone}
 use Rattle.card_files.specs.Views.{AppData, ImageData}
-use Rattle.card_pages.specs.Replies.{CardReplyData, refused}
+use Rattle.card_app.specs.PageReplies.{CardReplyData, refused}
 use Rattle.card_state.specs.declared.state.AppState.{AppState}
 use Rattle.card_state.specs.declared.state.CardState.{CardState}
 use Rattle.emv_dict.specs.Progress.{Progress, Done}

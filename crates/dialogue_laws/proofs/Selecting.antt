@@ -10,7 +10,7 @@ use Rattle.app_select.specs.Selecting.{SelectedData, final, final_by, or_else, f
 use Rattle.ber_tlv.proofs.ReadAgain.{both}
 use Rattle.card_app.specs.Selection.{app_found as finds, first_named, directory_asked}
 use Rattle.card_cryptogram.specs.declared.phase.Phase.TheVariants.{Directory, Selected}
-use Rattle.card_files.specs.Directory.{directory_name}
+use Rattle.emv_dict.specs.Name.{directory_name}
 use Rattle.card_files.specs.Files.{opening_of}
 use Rattle.card_files.specs.ImageRules.{KeepsRules, IsImage}
 use Rattle.card_files.specs.Views.{AppData, ImageData}

@@ -11,10 +11,11 @@ use Rattle.card_cryptogram.specs.Asked.{is_by_name, is_name_size}
 use Rattle.card_cryptogram.specs.declared.phase.Phase.{Phase}
 use Rattle.card_cryptogram.specs.declared.phase.Phase.TheVariants.{Directory, Selected}
 use Rattle.card_files.specs.Control.{fci_bytes}
-use Rattle.card_files.specs.Directory.{directory_name, directory_fci}
+use Rattle.card_files.specs.Directory.{directory_fci}
+use Rattle.emv_dict.specs.Name.{directory_name}
 use Rattle.card_files.specs.ImageRules.{KeepsRules}
 use Rattle.card_files.specs.Views.{AppData, ImageData}
-use Rattle.card_pages.specs.Replies.{refused, shows}
+use Rattle.card_app.specs.PageReplies.{refused, shows}
 use Rattle.card_state.specs.declared.state.AppState.{AppState}
 use Rattle.dialogue_laws.proofs.Answers.{Answers, answers, command_again, state_at, phase_at}
 use Rattle.dialogue_laws.proofs.DirectoryRead.{directory_data, directory_again, directory_short}

@@ -7,7 +7,7 @@ use Rattle.card_app.specs.Pin.{verify_of}
 use Rattle.card_app.specs.Session.{next_phase}
 use Rattle.card_cryptogram.specs.declared.phase.Phase.TheVariants.{Started}
 use Rattle.card_files.specs.Views.{AppData, ImageData}
-use Rattle.card_pages.specs.Comparing.{compared, has_pin}
+use Rattle.card_app.specs.Comparing.{compared, has_pin}
 use Rattle.card_state.specs.declared.state.AppState.{AppState}
 use Rattle.dialogue_laws.proofs.Answers.{state_at, phase_at}
 use Rattle.dialogue_laws.proofs.Hearing.{Heard, heard, if_room, app_room}

@@ -16,7 +16,8 @@ use Rattle.dialogue_laws.specs.StepAtCard.{ComesTo}
 use Rattle.dialogue_laws.specs.ListCourse.{list_candidates}
 use Rattle.emv_dict.specs.Settings.{IsAidRow}
 use Rattle.emv_dict.specs.declared.purchase.AidRow.{AidRow}
-use Rattle.pse_directory.specs.Directory.{directory_name, directory}
+use Rattle.pse_directory.specs.Directory.{directory}
+use Rattle.emv_dict.specs.Name.{directory_name}
 
 -- a card that shows all its applications in both ways: it has a directory, no name begins another's, and with these
 -- decisions neither the card nor an application is blocked

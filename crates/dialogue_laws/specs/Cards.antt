@@ -3,7 +3,7 @@ use Rattle.std.specs.Prelude.{ℕ, List, [], ◌∷◌, ◌++◌}
 use Rattle.card_app.specs.Answering.{card_answer}
 use Rattle.card_app.specs.Session.{Exchange}
 use Rattle.card_files.specs.Views.{ImageData}
-use Rattle.card_pages.specs.Replies.{CardAnswer}
+use Rattle.card_app.specs.PageReplies.{CardAnswer}
 use Rattle.card_state.specs.Decisions.{Decided}
 
 -- its decisions since it was made, and the commands and answers since power-up

@@ -15,7 +15,7 @@ use Rattle.card_app.specs.Session.{phase_of}
 use Rattle.card_files.specs.Files.{opening_of}
 use Rattle.card_files.specs.Views.{AppData, ImageData}
 use Rattle.card_keys.specs.Master.{master_key_of}
-use Rattle.card_pages.specs.Replies.{refused, decides, answer_said}
+use Rattle.card_app.specs.PageReplies.{refused, decides, answer_said}
 use Rattle.card_policy.specs.Policy.{is_declined_by_status, online_how}
 use Rattle.card_state.specs.Change.{changed}
 use Rattle.card_state.specs.Decisions.{blocks_app, blocks_whole, restores}

@@ -7,7 +7,7 @@ use Rattle.card_app.specs.Files.{record_or}
 use Rattle.card_app.specs.OwnLists.{cdol_of}
 use Rattle.card_files.specs.Files.{opening_of, record_in, has_record_of}
 use Rattle.card_files.specs.Views.{AppData, ImageData}
-use Rattle.card_pages.specs.Replies.{answer_said}
+use Rattle.card_app.specs.PageReplies.{answer_said}
 use Rattle.card_state.specs.Decisions.{Decided}
 use Rattle.card_state.specs.Totals.{totals}
 use Rattle.card_state.specs.declared.state.AppState.{AppState}

@@ -4,3 +4,4 @@ pub mod Known
 pub mod PowerUp
 pub mod Roughening
 pub mod Settling
+pub mod Blank

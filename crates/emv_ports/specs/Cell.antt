@@ -4,6 +4,10 @@ use Rattle.std.specs.List.{list_all}
 use Rattle.emv_ports.specs.declared.memory_pages.Cell.{Cell}
 use Rattle.emv_ports.specs.declared.memory_pages.Cell.TheVariants.{Sure, Unsure}
 
+-- the cells of pages: each is sure of a byte, or unsure
+abbrev pub Cells : Type 0
+Cells = List (List (Option ℕ))
+
 abbrev pub sure_of : Cell → Option ℕ
 sure_of (Sure byte) = Some byte
 sure_of (Unsure torn kept given) = None

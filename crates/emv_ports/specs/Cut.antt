@@ -1,5 +1,5 @@
 -- When a plan cuts the power.
-use Rattle.std.specs.Prelude.{ℕ, Bool, true, false, ◌&&◌, ◌==◌, nat_lt, nat_le, Option, Some, None, if◌then◌else◌}
+use Rattle.std.specs.Prelude.{ℕ, min, Bool, true, false, ◌&&◌, ◌==◌, nat_lt, nat_le, Option, Some, None, if◌then◌else◌}
 use Rattle.emv_ports.specs.declared.tear.Cut.{Cut}
 use Rattle.emv_ports.specs.declared.tear.Cut.TheVariants.{Spared, CutBefore, CutWithin}
 use Rattle.emv_ports.specs.declared.tear.Tear.{Tear}
@@ -16,6 +16,10 @@ is_place Release = true
 abbrev pub is_plan : Option Tear → Bool
 is_plan None = true
 is_plan (Some tear) = is_place tear.at
+
+-- the number of a commit by which a plan names it, the first one since the pages were turned on being 1; numbers stop at 255
+abbrev pub commit_of : ℕ → ℕ
+commit_of made = min made 255
 
 -- the plan names this commit
 abbrev pub names_commit : Option Tear → ℕ → Bool

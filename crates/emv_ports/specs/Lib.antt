@@ -10,3 +10,4 @@ pub mod Reading
 pub mod Rough
 pub mod State
 pub mod Workings
+pub mod Bank

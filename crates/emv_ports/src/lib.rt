@@ -6,6 +6,7 @@
 #![tactic(auto)]
 
 pub mod held;
+mod memory_bank;
 pub mod memory_pages;
 pub mod memory_sink;
 pub mod memory_source;
@@ -18,6 +19,7 @@ pub mod tear;
 pub mod transfer;
 
 pub use held::Held;
+pub use memory_bank::{blank_bank, rough_bank};
 pub use memory_pages::MemoryPages;
 pub use memory_sink::MemorySink;
 pub use memory_source::MemorySource;

@@ -4,8 +4,8 @@ use Rattle.std.proofs.lemmas.Option.{same_Some}
 use Rattle.capture_store.specs.StoreRow.{commit_next, opened_to_add}
 use Rattle.card_app.specs.Answering.{card_answer}
 use Rattle.card_files.specs.ImageRules.{IsImage}
-use Rattle.card_pages.specs.Cuts.{cut_of}
-use Rattle.card_pages.specs.Pages.{found_of}
+use Rattle.card_app.specs.Cuts.{cut_of}
+use Rattle.card_app.specs.Pages.{found_of}
 use Rattle.card_state.specs.Decisions.{Decided}
 use Rattle.dialogue_laws.specs.Cards.{Now}
 use Rattle.dialogue_laws.specs.Decisions.{PurchasesAreDecided, HostsAreLinked}

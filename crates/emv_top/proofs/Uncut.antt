@@ -2,9 +2,9 @@
 use Rattle.std.proofs.Common.{◌≡◌, ℕ, ◌+◌, Bool, true, false, List, [], ◌∷◌, ◌++◌, slice_get, Option, Some, None, option_map, refl, ap, ◌∙◌}
 use Rattle.capture_store.specs.StoreRow.{is_next_cut, opened_to_add}
 use Rattle.card_app.specs.Answering.{card_answer}
-use Rattle.card_pages.specs.Cuts.{Cut, cut_of, behind_one}
-use Rattle.card_pages.specs.Pages.{found_of}
-use Rattle.card_pages.specs.Replies.{CardAnswer}
+use Rattle.card_app.specs.Cuts.{Cut, cut_of, behind_one}
+use Rattle.card_app.specs.Pages.{found_of}
+use Rattle.card_app.specs.PageReplies.{CardAnswer}
 use Rattle.card_state.specs.Decisions.{Decided}
 use Rattle.emv_ports.specs.Cut.{names_commit}
 use Rattle.emv_ports.specs.declared.tear.Tear.{Tear}

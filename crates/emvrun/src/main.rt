@@ -3,7 +3,7 @@
 
 use emv_ports::{StdinSource, StdoutSink};
 use emv_top::run;
-use memory_bank::blank_bank;
+use emv_ports::blank_bank;
 use std::process::ExitCode;
 use std::{env, io};
 

@@ -4,8 +4,8 @@ use Rattle.std.specs.List.{fold, list_all}
 use Rattle.std.specs.Int.{to_be_bytes, w32}
 use Rattle.std.specs.Str.{bytes_eq}
 use Rattle.report_lines.specs.Pieces.{Piece, line, text, number, hex, word_or, reference, reference_or_none}
-use Rattle.book_sections.specs.References.{cause_reference}
-use Rattle.book_sections.specs.declared.references.TheConstants.{CUT, STATUS_REFERENCES}
+use Rattle.report_lines.specs.References.{cause_reference}
+use Rattle.report_lines.specs.declared.references.TheConstants.{CUT, STATUS_REFERENCES}
 use Rattle.report_lines.specs.Bits.{bits_between}
 use Rattle.report_lines.specs.Tables.{word_in, text_in}
 use Rattle.value_words.specs.Words.{tag_name_in}

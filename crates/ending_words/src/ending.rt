@@ -9,7 +9,7 @@ ghost use Rattle.report_lines.specs.Pieces.{Tells};
 use crate::digits::hex_number;
 use crate::phrases::{ALL_CARRIED_OUT, ASKED_FOR, CARD_ANSWERED, ENDED_AT, NO_SCRIPT, PULLED_OUT};
 use ber_tlv::Tag;
-use book_sections::{CUT, STATUS_REFERENCES, cause_reference};
+use report_lines::{CUT, STATUS_REFERENCES, cause_reference};
 use emv_dict::Kind;
 use exchange_words::{LaneState, kind_name, tell_cited_reason};
 use object_words::{tell_bit_word, tell_response_words, tell_results};

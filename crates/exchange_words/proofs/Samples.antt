@@ -3,7 +3,7 @@ use Rattle.std.proofs.Common.{◌≡◌, [], ◌∷◌, None, codes, true, false
 use Rattle.std.specs.Fmt.{digits}
 use Rattle.apdu_core.specs.Command.{command_of}
 use Rattle.apdu_core.specs.Response.{response_of}
-use Rattle.book_sections.specs.References.{answer_reference, any_status_reference, command_reference}
+use Rattle.report_lines.specs.References.{answer_reference, any_status_reference, command_reference}
 use Rattle.report_lines.specs.Tables.{word_in}
 use Rattle.report_lines.specs.Lines.{line_closed, line_opened, line_begun, stage_of, next_stage}
 use Rattle.report_lines.specs.Pieces.{with_piece, lines_of}

@@ -1,6 +1,6 @@
 -- What the definitions say of some statuses and commands.
 use Rattle.std.proofs.Common.{◌≡◌, false, [], ◌∷◌, codes, refl}
-use Rattle.book_sections.specs.References.{answer_reference, any_status_reference, command_reference}
+use Rattle.report_lines.specs.References.{answer_reference, any_status_reference, command_reference}
 use Rattle.report_lines.specs.Tables.{word_in}
 use Rattle.std.specs.Fmt.{digits}
 use Rattle.report_lines.specs.Lines.{line_closed, line_opened, line_begun, stage_of, next_stage}

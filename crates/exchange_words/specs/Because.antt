@@ -1,7 +1,7 @@
 -- Why a kind of cryptogram was asked for, and where that stands (EMV 4.3 Book 3 section 10.7).
 use Rattle.std.specs.Prelude.{ℕ, Bool, if◌then◌else◌, List, ◌++◌}
 use Rattle.report_lines.specs.Pieces.{Piece, reference}
-use Rattle.book_sections.specs.declared.references.TheConstants.{DENIAL, ONLINE, ANALYSIS, UNABLE, REPLY}
+use Rattle.report_lines.specs.declared.references.TheConstants.{DENIAL, ONLINE, ANALYSIS, UNABLE, REPLY}
 use Rattle.value_words.specs.ReasonWords.{reason_words}
 use Rattle.value_words.specs.declared.reason.Reason.{Reason}
 use Rattle.value_words.specs.declared.reason.Reason.TheVariants as reason

@@ -3,7 +3,7 @@ use Rattle.std.specs.Prelude.{ℕ, ◌+◌, ◌*◌, ◌/◌, ◌%◌, ◌==◌,
 use Rattle.std.specs.Option.{option_or}
 use Rattle.std.specs.Str.{bytes_eq}
 use Rattle.value_words.specs.Reasons.{reason_of}
-use Rattle.book_sections.specs.References.{command_reference}
+use Rattle.report_lines.specs.References.{command_reference}
 use Rattle.value_words.specs.declared.asking.Asking.{Asking}
 use Rattle.value_words.specs.declared.asking.Row.{Row}
 use Rattle.apdu_core.specs.Command.{CommandData, command_of}

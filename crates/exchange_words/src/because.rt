@@ -3,7 +3,7 @@ ghost use Rattle.std.specs.Prelude.{◌≡◌};
 ghost use Rattle.exchange_words.specs.Because as spec;
 ghost use Rattle.report_lines.specs.Pieces.{Tells};
 
-use book_sections::{ANALYSIS, DENIAL, ONLINE, REPLY, UNABLE};
+use report_lines::{ANALYSIS, DENIAL, ONLINE, REPLY, UNABLE};
 use report_lines::WordLines;
 use value_words::{Reason, tell_reason};
 

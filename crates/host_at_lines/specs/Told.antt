@@ -2,7 +2,7 @@
 use Rattle.std.specs.Prelude.{ℕ, ℤ, Bool, true, false, List, [], ◌∷◌, ◌++◌, length, codes, decimal, Option, Some, None}
 use Rattle.std.specs.List.{flat_map}
 use Rattle.std.specs.Fmt.{signed_decimal}
-use Rattle.fault_words.specs.FaultWords.{iso_fault_words, message_fault_words}
+use Rattle.host_link.specs.FaultWords.{iso_fault_words, message_fault_words}
 use Rattle.issuer_host.specs.Account.{AccountData}
 use Rattle.issuer_host.specs.Balance.{balance_in}
 use Rattle.issuer_host.specs.Books.{Books}

@@ -2,14 +2,14 @@
 ghost use Rattle.std.specs.Prelude.{◌≡◌, ◌+◌, ◌*◌, ◌≤◌, ◌++◌, ◌∷◌, [], length, codes, decimal};
 ghost use Rattle.std.specs.Fmt.{signed_decimal};
 ghost use Rattle.arrayvec.specs.ArrayVec.{array_vec_len};
-ghost use Rattle.fault_words.specs.FaultWords.{message_fault_words};
+ghost use Rattle.host_link.specs.FaultWords.{message_fault_words};
 ghost use Rattle.report_text.specs.Pieces.{hex_or_dash as hex_text};
 ghost use Rattle.host_at_lines.specs.Told as spec;
 
 use crate::because::Because;
 use auth_message::MessageFault;
 use emv_dict::Digits;
-use fault_words::{put_iso_fault, put_message_fault};
+use host_link::{put_iso_fault, put_message_fault};
 use iso_message::IsoFault;
 use issuer_host::Reason;
 use line_talk::LineText;

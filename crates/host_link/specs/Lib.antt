@@ -1,3 +1,4 @@
 pub mod Carried
 pub mod Delivery
 pub mod Dialect
+pub mod FaultWords

@@ -4,7 +4,7 @@ use Rattle.ber_tlv.specs.Direct.{found_value, sole_value}
 use Rattle.ber_tlv.specs.Left.{items_of}
 use Rattle.ber_tlv.specs.declared.item.TlvFault.{TlvFault}
 use Rattle.report_lines.specs.Pieces.{Piece, line, text, number, reference_or_none}
-use Rattle.book_sections.specs.declared.references.TheConstants.{HELD, ABOVE_BALANCE, NO_ACCOUNT, EXPIRED, WRONG_PIN, NOT_ALLOWED, WRONG_CRYPTOGRAM}
+use Rattle.report_lines.specs.declared.references.TheConstants.{HELD, ABOVE_BALANCE, NO_ACCOUNT, EXPIRED, WRONG_PIN, NOT_ALLOWED, WRONG_CRYPTOGRAM}
 use Rattle.issuer_reasons.specs.Wanted.{currency_words}
 use Rattle.issuer_reasons.specs.Accounts.{account_now, charged}
 use Rattle.issuer_reasons.specs.declared.account.Account.{Account}

@@ -6,7 +6,7 @@ ghost use Rattle.report_lines.specs.Pieces.{Tells};
 use crate::account::{Account, AccountNow, Charge, account_now, charge_account};
 use crate::wanted::{Wanted, tell_currency};
 use ber_tlv::{Tag, first_value, sole_value};
-use book_sections::{
+use report_lines::{
     ABOVE_BALANCE, EXPIRED, HELD, NO_ACCOUNT, NOT_ALLOWED, WRONG_CRYPTOGRAM, WRONG_PIN,
 };
 use report_lines::WordLines;

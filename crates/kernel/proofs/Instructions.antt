@@ -15,7 +15,8 @@ use Rattle.env_map.specs.Entries.{Entries}
 use Rattle.kernel.specs.Laws.{opens_in}
 use Rattle.object_lists.specs.CardRead.{ReadCard}
 use Rattle.object_lists.specs.Checked.{objects_fault}
-use Rattle.pse_directory.specs.Directory.{directory, directory_name, records, told, named, done, kept_candidates, listed_in, found_or, after_directory, by_directory, selecting_by}
+use Rattle.pse_directory.specs.Directory.{directory, records, told, named, done, kept_candidates, listed_in, found_or, after_directory, by_directory, selecting_by}
+use Rattle.emv_dict.specs.Name.{directory_name}
 use Rattle.pse_directory.specs.Entries.{EntryData}
 use Rattle.pse_directory.specs.Said as directory_said
 use Rattle.read_records.specs.Afl.{RecordPlace}

@@ -21,7 +21,7 @@ use Rattle.kernel.proofs.Showing.{next_is_told}
 use Rattle.kernel.specs.StepsInTurn.{Standing, Rest, stands, over, by_progress, then_step, card_step, cut_off, host_step}
 use Rattle.kernel.specs.Dialogue.{TransactionData, all_failed, left_script, scripts_behind, second, scripts_before, issuer_authentication, authentication_by, has_authentication, unable_online, kind_unable, reply_read, replied, is_offline_only, first_answered, first, analysis, risk, verification, restrictions, read, granted, initiation, initiation_or, candidates_left, selected_then, dialogue, decision, kind_for, kind_wanted}
 use Rattle.kernel.specs.Kernel.{KernelData, KernelFits, KernelStands, outset_in, kernel_next, standing_next}
-use Rattle.kernel.specs.Laws.{AsBefore, LeavesBy, IsUnable, HeardBy, Turned, IsAskedIn, is_unanswered, is_unchecked, is_authenticated, templates_left, step_before, step_behind_reply, sets_reply, cuts, is_second}
+use Rattle.kernel.specs.Laws.{AsBefore, LeavesBy, IsUnable, HeardBy, Turned, IsAskedIn, is_unanswered, is_unchecked, is_issuer_authentication, templates_left, step_before, step_behind_reply, sets_reply, cuts, is_second}
 use Rattle.kernel.specs.Reply.{Reply, CardSaid, CardGone, HostSaid, HostSilent, ToCard, Over}
 use Rattle.object_lists.specs.CardRead.{ReadCard}
 use Rattle.kernel.specs.declared.kernel.Next.TheVariants as next
@@ -238,7 +238,7 @@ is_checked false there = refl
 -- what holds before the issuer has replied
 abbrev IsUnanswered : TransactionData → List StepResult → Type 0
 IsUnanswered transaction steps_done =
-    (list_any is_second steps_done ≡ false) × (latest sets_card None steps_done ≡ Some transaction.card) × (list_any is_authenticated steps_done ≡ false)
+    (list_any is_second steps_done ≡ false) × (latest sets_card None steps_done ≡ Some transaction.card) × (list_any is_issuer_authentication steps_done ≡ false)
     × ((templates : List (List ℕ)) → templates_left templates steps_done ≡ templates)
 
 authentication_by_turns : (transaction : TransactionData) (said : ReplyData) (steps_done : List StepResult) → IsUnanswered transaction steps_done → (has : Bool) (auth : Option (List ℕ))
@@ -246,7 +246,7 @@ authentication_by_turns : (transaction : TransactionData) (said : ReplyData) (st
     → Turns (HasReply said ∷ steps_done) (authentication_by transaction (kept_host_reply said) (HasReply said ∷ steps_done) has auth)
 authentication_by_turns transaction said steps_done u has None has_is auth_is =
     scripts_before_turns transaction said (said_templates said) (HasReply said ∷ steps_done) (u.0, u.1, refl, u.3 (said_templates said))
-    (rw (has_is, auth_is) (no_data has (list_any is_authenticated steps_done))) (λ at is instruction. is)
+    (rw (has_is, auth_is) (no_data has (list_any is_issuer_authentication steps_done))) (λ at is instruction. is)
 authentication_by_turns transaction said steps_done u false (Some value) has_is auth_is =
     scripts_before_turns transaction said (said_templates said) (HasReply said ∷ steps_done) (u.0, u.1, refl, u.3 (said_templates said)) (rw has_is refl) (λ at is instruction. is)
 authentication_by_turns transaction said steps_done u true (Some value) has_is auth_is =

@@ -114,9 +114,9 @@ AsBefore steps_done t =
     × (latest sets_reply None t.steps_done ≡ latest sets_reply None steps_done)
 
 -- issuer authentication is finished
-abbrev pub is_authenticated : StepResult → Bool
-is_authenticated (HasAuthenticated good) = true
-is_authenticated other = false
+abbrev pub is_issuer_authentication : StepResult → Bool
+is_issuer_authentication (HasAuthenticated good) = true
+is_issuer_authentication other = false
 
 -- those of these templates that haven't run yet
 abbrev pub templates_left : List (List ℕ) → List StepResult → List (List ℕ)
@@ -132,7 +132,7 @@ step_before (template ∷ left) = step.Script
 -- the reply's cryptogram is to be checked still, where it has one and the card has the function
 abbrev pub is_unchecked : Option ReadCard → ReplyData → List StepResult → Bool
 is_unchecked None reply steps_done = false
-is_unchecked (Some card) reply steps_done = has_authentication card && is_some reply.auth && not (list_any is_authenticated steps_done)
+is_unchecked (Some card) reply steps_done = has_authentication card && is_some reply.auth && not (list_any is_issuer_authentication steps_done)
 
 -- behind the issuer's reply
 abbrev pub step_behind_reply : Option ReplyData → List StepResult → Step

@@ -3,7 +3,7 @@ use Rattle.std.proofs.Common.{◌≡◌, ℕ, List, [], false, None, codes, refl
 use Rattle.std.specs.Fmt.{digits}
 use Rattle.apdu_core.specs.Command.{command_of}
 use Rattle.apdu_core.specs.Response.{response_of}
-use Rattle.book_sections.specs.References.{answer_reference, any_status_reference, command_reference}
+use Rattle.report_lines.specs.References.{answer_reference, any_status_reference, command_reference}
 use Rattle.report_lines.specs.Tables.{word_in}
 use Rattle.hex.specs.Hex.{decode_pairs}
 use Rattle.report_lines.specs.Lines.{line_closed, line_opened, line_begun, stage_of, next_stage}

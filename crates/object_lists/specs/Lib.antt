@@ -8,3 +8,4 @@ pub mod Filled
 pub mod Forms
 pub mod CardObjects
 pub mod SeenRow
+pub mod Coding

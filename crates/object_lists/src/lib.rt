@@ -3,10 +3,12 @@
 
 pub mod card_data;
 pub mod checked;
+mod coding;
 pub mod dol;
 pub mod filling;
 
 pub use card_data::CardData;
 pub use checked::objects_fault;
+pub use coding::coding_cause;
 pub use dol::{Dol, DolFault, place, read_dol, total};
 pub use filling::{fill, fill_without_card};

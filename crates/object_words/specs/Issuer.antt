@@ -1,8 +1,8 @@
 -- Values that the issuer gives or reads, in words.
 use Rattle.std.specs.Prelude.{ℕ, ◌+◌, ◌*◌, ◌/◌, ◌%◌, ◌==◌, Bool, ◌&&◌, nat_le, if◌then◌else◌, List, [], ◌∷◌, ◌++◌, length, map, slice_index, take, drop, bit_and, codes, Option, Some, None}
 use Rattle.report_lines.specs.Pieces.{Piece, text, number, hex, word_or, reference, reference_or_none}
-use Rattle.book_sections.specs.References.{response_reference}
-use Rattle.book_sections.specs.declared.references.TheConstants.{SETTLED}
+use Rattle.report_lines.specs.References.{response_reference}
+use Rattle.report_lines.specs.declared.references.TheConstants.{SETTLED}
 use Rattle.report_lines.specs.Tables.{word_in}
 use Rattle.value_words.specs.declared.bits.TheConstants.{UPDATE_BITS}
 use Rattle.value_words.specs.declared.codes.TheConstants.{CRYPTOGRAMS, RESPONSES}

@@ -6,7 +6,7 @@ use Rattle.ber_tlv.specs.Item.{ItemData}
 use Rattle.ber_tlv.specs.Left.{items_of, fault_of}
 use Rattle.ber_tlv.specs.Tag.{names_template}
 use Rattle.ber_tlv.specs.Written.{tag_bytes}
-use Rattle.book_sections.specs.declared.references.TheConstants.{STATUS_REFERENCES}
+use Rattle.report_lines.specs.declared.references.TheConstants.{STATUS_REFERENCES}
 use Rattle.value_words.specs.Words.{tag_name_in}
 use Rattle.value_words.specs.declared.bits.TheConstants.{ADDITIONAL_BITS, CAPABILITY_BITS, INTERCHANGE_BITS, STATUS_BITS, USAGE_BITS}
 use Rattle.value_words.specs.declared.codes.TheConstants.{TERMINAL_TYPES, TRADES}

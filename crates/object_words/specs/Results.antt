@@ -3,7 +3,7 @@
 use Rattle.std.specs.Prelude.{ℕ, ◌+◌, ◌-◌, ◌*◌, ◌/◌, ◌%◌, ◌^◌, ◌==◌, Bool, true, false, ◌||◌, if◌then◌else◌, List, [], ◌++◌, map, codes, Option, Some, None, option_map}
 use Rattle.std.specs.Borrow.{Bor}
 use Rattle.report_lines.specs.Pieces.{Piece, line, text, number, reference_or_none}
-use Rattle.book_sections.specs.References.{result_reference}
+use Rattle.report_lines.specs.References.{result_reference}
 use Rattle.report_lines.specs.Bits.{has_bit, bits_told_from, bits_between}
 use Rattle.report_lines.specs.Tables.{word_in}
 use Rattle.value_words.specs.declared.bits.TheConstants.{RESULT_BITS}

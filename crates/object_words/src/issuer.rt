@@ -10,7 +10,7 @@ use crate::phrases::{
     RESPONSE_CRYPTOGRAM, STATUS_UPDATE,
 };
 use crate::style::Style;
-use book_sections::{SETTLED, response_reference};
+use report_lines::{SETTLED, response_reference};
 use report_lines::{WordLines, word_of};
 use value_words::{CRYPTOGRAMS, RESPONSES, UPDATE_BITS};
 

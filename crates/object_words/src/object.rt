@@ -15,7 +15,7 @@ use crate::results::tell_result_lines;
 use crate::style::{ResultsStyle, Style};
 use crate::track::tell_track;
 use ber_tlv::{Cursor, Item, Tag, first_fault, is_constructed, tag_bytes};
-use book_sections::STATUS_REFERENCES;
+use report_lines::STATUS_REFERENCES;
 use report_lines::WordLines;
 use value_words::{
     ADDITIONAL_BITS, CAPABILITY_BITS, Form, INTERCHANGE_BITS, STATUS_BITS, TERMINAL_TYPES, TRADES,

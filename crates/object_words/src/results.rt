@@ -7,7 +7,7 @@ ghost use Rattle.report_lines.specs.Pieces.{Tells};
 
 use crate::phrases::IN_NO_CARD_CODE;
 use crate::style::KnownCodes;
-use book_sections::result_reference;
+use report_lines::result_reference;
 use report_lines::{WordLines, word_of};
 use value_words::{RESULT_BITS, Row, has_bit};
 

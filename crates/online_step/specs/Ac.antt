@@ -1,11 +1,11 @@
 -- A card's answer to GENERATE AC (EMV 4.3 Book 3 section 6.5.5.4; sections 10.8, 10.11).
+use Rattle.object_lists.specs.Coding.{coding_cause}
 use Rattle.std.specs.Prelude.{ℕ, Bool, true, false, ◌+◌, ◌*◌, ◌==◌, ◌&&◌, ◌||◌, nat_le, if◌then◌else◌, List, [], length, drop, slice_index, slice_range, Option, Some, None, Result, Ok, Err}
 use Rattle.apdu_core.specs.Response.{ResponseData, response_of}
 use Rattle.apdu_core.specs.Status.{no_error}
-use Rattle.ber_tlv.specs.Direct.{first_value, sole_value, template_fault}
+use Rattle.ber_tlv.specs.Direct.{first_value, sole_value}
 use Rattle.ber_tlv.specs.Item.{ItemData}
 use Rattle.ber_tlv.specs.Left.{items_of}
-use Rattle.ber_tlv.specs.FaultPlace.{place_or_zero}
 use Rattle.ber_tlv.specs.declared.item.TlvFault.{TlvFault}
 use Rattle.emv_dict.specs.Kinds.{kind_of, is_above}
 use Rattle.emv_dict.specs.Views.{AcData}
@@ -64,10 +64,6 @@ of_values information counter cryptogram iad = do
 -- format 2: the objects of a template, the first of each tag
 abbrev pub ac_of_objects : List ItemData → Result AcObjects Cause
 ac_of_objects items = of_values (first_value 0x9F27 items) (first_value 0x9F36 items) (first_value 0x9F26 items) (first_value 0x9F10 items)
-
--- the first fault among the body's objects and those directly in a template 77, or 0
-abbrev pub coding_cause : List ℕ → Cause
-coding_cause body = cause.Coding (place_or_zero (template_fault 0x77 body))
 
 abbrev pub ac_in_format_two : List ℕ → Result (List ItemData) TlvFault → Result AcObjects Cause
 ac_in_format_two body (Ok items) = ac_of_objects items

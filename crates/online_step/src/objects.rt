@@ -2,11 +2,13 @@
 ghost use Rattle.std.specs.Prelude.{◌≡◌, ◌≤◌, length, Ok, Err, IfOk, MatchResult};
 ghost use Rattle.ber_tlv.specs.Left.{items_of};
 ghost use Rattle.online_step.specs.Ac as spec;
-ghost use Rattle.online_step.specs.Ac.{objects_in, ac_in_format_one, ac_in_format_two, coding_cause};
+ghost use Rattle.online_step.specs.Ac.{objects_in, ac_in_format_one, ac_in_format_two};
+ghost use Rattle.object_lists.specs.Coding.{coding_cause};
 ghost use Rattle.online_step.specs.SeenAc.{seen_bytes, seen_objects};
 
-use ber_tlv::{Tag, first_value, place_or_zero, sole_value, template_fault};
+use ber_tlv::{Tag, first_value, sole_value};
 use emv_dict::Cause;
+use object_lists::coding_cause;
 
 /// The most bytes of issuer application data.
 const MOST_ISSUER_DATA: usize = 32;
@@ -154,11 +156,4 @@ fn issuer_data(value: Option<&[u8]>) -> Result<&[u8], Cause>
             Ok(iad)
         }
     }
-}
-
-/// The cause of a body of another form.
-fn coding_cause(body: &[u8]) -> Cause
-    ensures { result ≡ coding_cause body.now }
-{
-    Cause::Coding(place_or_zero(template_fault(body, Tag(0x77))))
 }

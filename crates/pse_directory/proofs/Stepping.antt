@@ -18,7 +18,8 @@ use Rattle.ber_tlv.specs.declared.item.TlvFault.{TlvFault}
 use Rattle.emv_dict.specs.Progress.{Progress, Wants, Stopped}
 use Rattle.emv_dict.specs.declared.ending.Cause.TheVariants.{Answer, CardBlocked}
 use Rattle.emv_dict.specs.declared.purchase.AidRow.{AidRow}
-use Rattle.pse_directory.specs.Directory.{kept_candidates, listed_in, done, told, records, directory, directory_name}
+use Rattle.pse_directory.specs.Directory.{kept_candidates, listed_in, done, told, records, directory}
+use Rattle.emv_dict.specs.Name.{directory_name}
 use Rattle.pse_directory.specs.Entries.{EntryData}
 use Rattle.pse_directory.specs.Keeping.{candidates_with, with_entries}
 use Rattle.pse_directory.specs.Left.{PlaceData, AtName, AtRecord, DirectoryData, directory_left_at, directory_left}

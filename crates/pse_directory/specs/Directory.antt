@@ -11,11 +11,6 @@ use Rattle.emv_dict.specs.declared.purchase.AidRow.{AidRow}
 use Rattle.pse_directory.specs.Entries.{EntryData}
 use Rattle.pse_directory.specs.Said.{NameSaid, NoResponse, Blocked, Gives, Nothing, RecordSaid, Unreadable, Past, Holds, Faulty, name_said, record_said}
 
--- the name of the payment system environment, 1PAY.SYS.DDF01
-abbrev pub directory_name : List ℕ
-directory_name =
-    0x31 ∷ 0x50 ∷ 0x41 ∷ 0x59 ∷ 0x2E ∷ 0x53 ∷ 0x59 ∷ 0x53 ∷ 0x2E ∷ 0x44 ∷ 0x44 ∷ 0x46 ∷ 0x30 ∷ 0x31 ∷ []
-
 -- the candidate that an entry gives, by the first of the terminal's rows that supports its name
 abbrev pub listed_by : List AidRow → EntryData → Option CandidateData
 listed_by rows entry =

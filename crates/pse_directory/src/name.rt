@@ -1,7 +1,7 @@
 //! SELECT of the directory by its name, and its answer (EMV 4.3 Book 1 sections 11.3 and 12.2.2).
 ghost use Rattle.std.specs.Prelude.{◌≡◌, ◌≤◌, length, option_map};
 ghost use Rattle.app_select.specs.Said.{select_command};
-ghost use Rattle.pse_directory.specs.Directory.{directory_name};
+ghost use Rattle.emv_dict.specs.Name.{directory_name};
 ghost use Rattle.pse_directory.specs.Said as spec;
 ghost use Rattle.pse_directory.specs.Said.{directory_file, name_said, said_file};
 ghost use Rattle.pse_directory.specs.SeenSaid.{seen_name};

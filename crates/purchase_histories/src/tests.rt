@@ -10,7 +10,7 @@ use early_tears::EARLY_TEARS;
 use emv_ports::{MemorySink, MemorySource};
 use emv_top::run;
 use late_tears::LATE_TEARS;
-use memory_bank::blank_bank;
+use emv_ports::blank_bank;
 use payments::PAYMENTS;
 use std::alloc::Global;
 use std::process::Abort;

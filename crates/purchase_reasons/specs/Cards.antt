@@ -3,7 +3,7 @@ use Rattle.std.specs.Prelude.{Bool, true, false, ◌||◌, if◌then◌else◌, 
 use Rattle.emv_dict.specs.declared.ending.Kind.{Kind}
 use Rattle.emv_dict.specs.declared.ending.Kind.TheVariants.{Aac, Tc, Arqc}
 use Rattle.report_lines.specs.Pieces.{Piece, text, reference}
-use Rattle.book_sections.specs.declared.references.TheConstants.{FIRST_KIND, SECOND_KIND}
+use Rattle.report_lines.specs.declared.references.TheConstants.{FIRST_KIND, SECOND_KIND}
 use Rattle.value_words.specs.Statuses.{kind_name}
 use Rattle.purchase_reasons.specs.Approval.{offline_approval_words}
 use Rattle.purchase_reasons.specs.declared.approval.Facts.{Facts}

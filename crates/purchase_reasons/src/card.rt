@@ -5,7 +5,7 @@ ghost use Rattle.report_lines.specs.Pieces.{Tells};
 
 use crate::approval::{Facts, tell_approval};
 use crate::followed::Standing;
-use book_sections::{FIRST_KIND, SECOND_KIND};
+use report_lines::{FIRST_KIND, SECOND_KIND};
 use emv_dict::Kind;
 use exchange_words::kind_name;
 use report_lines::WordLines;

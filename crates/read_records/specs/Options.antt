@@ -1,12 +1,12 @@
 -- GET PROCESSING OPTIONS (EMV 4.3 Book 3 sections 6.5.8 and 10.1; section 6.5.8.4).
+use Rattle.object_lists.specs.Coding.{coding_cause}
 use Rattle.std.specs.Prelude.{ℕ, List, [], ◌∷◌, ◌==◌, nat_le, nat_lt, length, take, drop, Option, Some, None, Result, Ok, Err, if◌then◌else◌}
 use Rattle.apdu_core.specs.Command.{command_bytes}
 use Rattle.apdu_core.specs.Response.{ResponseData, response_of}
 use Rattle.apdu_core.specs.Status.{no_error, conditions_not_satisfied}
-use Rattle.ber_tlv.specs.Direct.{first_value, sole_value, template_fault}
+use Rattle.ber_tlv.specs.Direct.{first_value, sole_value}
 use Rattle.ber_tlv.specs.Item.{ItemData}
 use Rattle.ber_tlv.specs.Left.{items_of}
-use Rattle.ber_tlv.specs.FaultPlace.{place_or_zero}
 use Rattle.ber_tlv.specs.Written.{written}
 use Rattle.ber_tlv.specs.declared.item.TlvFault.{TlvFault}
 use Rattle.emv_dict.specs.Progress.{Progress, Wants, Stopped, Done}
@@ -56,10 +56,6 @@ options_of_objects None locator = Err (cause.Missing (record { 0 = 0x82 }))
 options_of_objects (Some profile) None = Err (cause.Missing (record { 0 = 0x94 }))
 options_of_objects (Some profile) (Some locator) =
     if length profile == 2 then profile_and_locator profile locator else Err (cause.Value (record { 0 = 0x82 }))
-
--- the first fault among the body's objects and those directly in a template 77, or 0
-abbrev pub coding_cause : List ℕ → Cause
-coding_cause body = cause.Coding (place_or_zero (template_fault 0x77 body))
 
 abbrev pub options_in_format_two : List ℕ → Result (List ItemData) TlvFault → Result Opened Cause
 options_in_format_two body (Ok items) = options_of_objects (first_value 0x82 items) (first_value 0x94 items)

@@ -2,14 +2,16 @@
 ghost use Rattle.std.specs.Prelude.{◌≡◌, ◌≤◌, ◌<◌, ℕ, List, length, Ok, Err, IfOk, IfSome, MatchResult, option_map};
 ghost use Rattle.ber_tlv.specs.Left.{items_of};
 ghost use Rattle.read_records.specs.Afl.{places_of, most_records};
-ghost use Rattle.read_records.specs.Options.{options_in, options_in_format_one, options_in_format_two, options_of_objects, coding_cause, profile_and_locator, options_said};
+ghost use Rattle.read_records.specs.Options.{options_in, options_in_format_one, options_in_format_two, options_of_objects, profile_and_locator, options_said};
+ghost use Rattle.object_lists.specs.Coding.{coding_cause};
 ghost use Rattle.read_records.specs.SeenOptions.{seen_options, seen_options_said, IsGrantedInRange};
 
 use crate::afl::{Groups, read_afl};
 use apdu_core::read_response;
 use apdu_core::status::{CONDITIONS_NOT_SATISFIED, NO_ERROR};
-use ber_tlv::{Tag, first_value, place_or_zero, sole_value, template_fault};
+use ber_tlv::{Tag, first_value, sole_value};
 use emv_dict::Cause;
+use object_lists::coding_cause;
 
 /// What a card gives for GET PROCESSING OPTIONS.
 #[derive(Drop)]
@@ -142,11 +144,4 @@ fn with_groups(aip: [u8; 2], afl: &[u8]) -> Result<Options<'_>, Cause>
         Ok(groups) => Ok(Options { aip, afl, groups }),
         Err(number) => Err(Cause::Afl(number)),
     }
-}
-
-/// The cause of a body of another form.
-fn coding_cause(body: &[u8]) -> Cause
-    ensures { result ≡ coding_cause body.now }
-{
-    Cause::Coding(place_or_zero(template_fault(body, Tag(0x77))))
 }

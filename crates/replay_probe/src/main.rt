@@ -15,7 +15,7 @@ ghost use Rattle.emv_ports.specs.Memory.{IsBlank};
 use emv_ports::{Held, MemoryPages, Pages, StdinSource, StdoutSink};
 use emv_top::{Finished, run};
 use kernel::Tally;
-use memory_bank::{blank_bank, rough_bank};
+use emv_ports::{blank_bank, rough_bank};
 use std::alloc::{AllocError, Global};
 use std::process::ExitCode;
 use std::{env, io};

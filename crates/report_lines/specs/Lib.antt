@@ -7,3 +7,4 @@ pub mod Parts
 pub mod Pieces
 pub mod Reading
 pub mod Tables
+pub mod References

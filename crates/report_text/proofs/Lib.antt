@@ -1,2 +1,13 @@
 pub mod Digits
 pub mod Packing
+mod Fronts
+mod Counters
+mod Endings
+mod Parts
+mod Flat
+mod Marks
+mod Lines
+mod Splitting
+mod EndingsBack
+mod OneLine
+mod LinesBack

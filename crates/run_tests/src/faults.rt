@@ -5,7 +5,7 @@ use crate::runs::{ANSWER, Outcome, Row, play, run_of, words_of};
 use crate::torn::{TORN, TORN_REPORT};
 use emv_ports::{MemorySink, MemorySource};
 use emv_top::run;
-use memory_bank::blank_bank;
+use emv_ports::blank_bank;
 use std::alloc::Global;
 use std::process::Abort;
 use std::test::Fail;

@@ -3,7 +3,7 @@ use crate::rows::{BASE, BASE_READ, BASE_REPORT};
 use emv_ports::{Held, MemoryPages, MemorySink, MemorySource};
 use emv_top::{Finished, run};
 use kernel::Tally;
-use memory_bank::blank_bank;
+use emv_ports::blank_bank;
 use std::alloc::Global;
 use std::process::Abort;
 use std::test::Fail;

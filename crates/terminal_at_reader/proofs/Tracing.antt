@@ -38,7 +38,7 @@ use Rattle.terminal_at_reader.proofs.Entries.{ask_unheard, over_of}
 use Rattle.terminal_at_reader.proofs.Fronts.{has_end}
 use Rattle.terminal_at_reader.specs.Document.{ReadsTerminal}
 use Rattle.terminal_at_reader.specs.Hearing.{fault_line, understood, unread}
-use Rattle.ask_reasons.specs.QuestionText.{question_text}
+use Rattle.trace_check.specs.QuestionText.{question_text}
 use Rattle.terminal_at_reader.specs.Settlement.{settlement_reply}
 use Rattle.terminal_at_reader.specs.Talk.{AreEntries, Doing, Pays, Rests, Settles, TerminalTalked, TerminalTurn, ask_at, asked_line, asked_turn, asks, asks_again, asks_why, begins, end_shown_at, first_turn, goes, goes_on, losing_turn, lost_captured_line, lost_line, lost_turn, next_line, next_turn, other_turn, outset_of_planned, paying_turn, question_decided, replies_heard, reply_if_entry, resting_turn, settle_line, settlement_turn, settling_turn, terminal_opening, terminal_turn, told_of, turn_at, turn_by_end, turn_if_captured, turn_if_planned, turn_if_reply, turn_with, want_line, why_line, why_turn}
 use Rattle.terminal_at_reader.specs.Till.{TillData, approval_logged, new_till, till_begun, till_broken_off, till_lost, till_lost_captured}

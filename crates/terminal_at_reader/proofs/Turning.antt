@@ -29,12 +29,12 @@ use Rattle.trace_check.specs.declared.entry.Entry.TheVariants as entries
 use Rattle.terminal_at_reader.proofs.Entries.{no_end, told_end}
 use Rattle.terminal_at_reader.specs.Document.{most_purchases}
 use Rattle.terminal_at_reader.specs.Hearing.{fault_line, understood, unread}
-use Rattle.ask_reasons.specs.LastQuestion.{question_behind}
-use Rattle.ask_reasons.specs.QuestionText.{question_text}
+use Rattle.trace_check.specs.LastQuestion.{question_behind}
+use Rattle.trace_check.specs.QuestionText.{question_text}
 use Rattle.terminal_at_reader.specs.Settlement.{settled_line, settlement_line, settlement_reply}
-use Rattle.terminal_at_reader.specs.Talk.{Doing, HasAmounts, HasAskedSo, HasOpened, IsPaying, IsTurnOf, Pays, Rests, Settles, TerminalTalked, TerminalTurn, WorksAt, asked_line, asked_turn, begins, end_shown_at, goes, line_of, losing_turn, lost_captured_line, lost_line, lost_turn, next_line, next_turn, other_turn, outset_of_planned, paying_turn, question_decided, resting_turn, settle_line, settlement_turn, settling_turn, terminal_opening, terminal_turn, turn_by_end, turn_if_captured, turn_if_planned, turn_if_reply, turn_with, want_line, why_line, why_turn}
+use Rattle.terminal_at_reader.specs.Talk.{Doing, HasAmounts, HasAskedSo, HasBegunFirst, IsPaying, IsTurnOf, Pays, Rests, Settles, TerminalTalked, TerminalTurn, WorksAt, asked_line, asked_turn, begins, end_shown_at, goes, line_of, losing_turn, lost_captured_line, lost_line, lost_turn, next_line, next_turn, other_turn, outset_of_planned, paying_turn, question_decided, resting_turn, settle_line, settlement_turn, settling_turn, terminal_opening, terminal_turn, turn_by_end, turn_if_captured, turn_if_planned, turn_if_reply, turn_with, want_line, why_line, why_turn}
 use Rattle.terminal_at_reader.specs.Till.{TillData, new_till, till_begun, till_broken_off, till_ended, till_lost, till_lost_captured, till_settled}
-use Rattle.ask_reasons.specs.declared.question.Question.{Question}
+use Rattle.trace_check.specs.declared.question.Question.{Question}
 use Rattle.terminal_at_reader.specs.declared.work.Phase.TheVariants as phase
 use Rattle.terminal_at_reader.specs.declared.work.Work.{Work}
 
@@ -398,7 +398,7 @@ opening_of text = record { text = text; onward = way.Awaits }
 abbrev pub opening_by : TerminalTurn → Opening
 opening_by turn = record { text = turn.answer; onward = turn.onward }
 
-module _ (lane : LaneData) (work : Work) (opened : HasOpened lane work) where
+module _ (lane : LaneData) (work : Work) (opened : HasBegunFirst lane work) where
   abbrev outset_first : Outset
   outset_first = outset_of_planned lane opened.planned
 
@@ -434,7 +434,7 @@ module _ (lane : LaneData) (work : Work) (opened : HasOpened lane work) where
     first = λ none. opened;
   }
 
-pub never_ended : (lane : LaneData) (work : Work) → HasOpened lane work → kernel_next work.kernel ≡ next.Ended → ⊥
+pub never_ended : (lane : LaneData) (work : Work) → HasBegunFirst lane work → kernel_next work.kernel ≡ next.Ended → ⊥
 never_ended lane work opened ended = let clash : next.ToCard ≡ next.Ended = sym opened.waits ∙ ended in cc clash
 
 -- a purchase of a lane
@@ -462,7 +462,7 @@ pub has_begun : (lane : LaneData) (work : Work) (planned : Planned) → IsLane l
     → HasBegun (outset_of_planned lane planned) work.kernel → kernel_next work.kernel ≡ standing_next (dialogue (outset_in work.kernel) []) → work.phase ≡ phase.Pays
     → work.amount ≡ planned.purchase.amount → work.terminal_type ≡ lane.settings.kind → work.till ≡ till_begun new_till → HasAskedSo lane work []
 has_begun lane work planned rules few first begun stands pays amount type_is till_is =
-    let opened : HasOpened lane work = record {
+    let opened : HasBegunFirst lane work = record {
       planned = planned;
       first = first;
       live = record { outset_is = begun.outset_is; stands = begun.stands; fresh = begun.fresh };

@@ -3,7 +3,7 @@ use Rattle.std.specs.Prelude.{ℕ, Bool, List, [], ◌∷◌, ◌++◌, codes, O
 use Rattle.auth_message.specs.Reply.{ReplyData, reply_of}
 use Rattle.auth_message.specs.Spelling.{reply_bytes}
 use Rattle.auth_message.specs.declared.fault.MessageFault.{MessageFault}
-use Rattle.fault_words.specs.FaultWords.{iso_fault_words, message_fault_words}
+use Rattle.host_link.specs.FaultWords.{iso_fault_words, message_fault_words}
 use Rattle.iso_message.specs.Dialect.{call_in}
 use Rattle.iso_message.specs.Reply.{iso_reply_of}
 use Rattle.iso_message.specs.declared.fault.IsoFault.{IsoFault}

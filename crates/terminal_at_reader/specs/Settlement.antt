@@ -11,7 +11,7 @@ use Rattle.iso_message.specs.declared.fault.IsoFault.TheVariants as iso_fault
 use Rattle.iso_message.specs.declared.kind.CallKind.{CallKind}
 use Rattle.iso_message.specs.declared.kind.CallKind.TheVariants.{Request, Presentment, Reversal}
 use Rattle.report_text.specs.Pieces.{hex_or_dash}
-use Rattle.trace_check.specs.Texts.{behind, bytes_shown, if_behind}
+use Rattle.trace_check.specs.Texts.{marked_rest, bytes_shown, if_behind}
 use Rattle.terminal_at_reader.specs.Hearing.{message_fault_in}
 use Rattle.terminal_at_reader.specs.declared.fault.ReplyFault.{ReplyFault}
 use Rattle.terminal_at_reader.specs.declared.fault.ReplyFault.TheVariants.{Iso}
@@ -25,7 +25,7 @@ settled_line count = (codes "settled " ++ decimal count) ++ 10 ∷ []
 
 -- the reply that a line says, of at most 2,048 bytes
 abbrev pub settlement_reply : List ℕ → Option (List ℕ)
-settlement_reply line = if_behind (behind (codes "settle < ") line) (bytes_shown 2048) None
+settlement_reply line = if_behind (marked_rest (codes "settle < ") line) (bytes_shown 2048) None
 
 abbrev pub same_kind : CallKind → CallKind → Bool
 same_kind Request Request = true

@@ -22,11 +22,11 @@ use Rattle.trace_check.specs.Texts.{entry_of_text, entry_text}
 use Rattle.trace_check.specs.declared.entry.Entry.{Entry}
 use Rattle.terminal_at_reader.specs.Document.{most_purchases}
 use Rattle.terminal_at_reader.specs.Hearing.{fault_line, spoken, understood, unread}
-use Rattle.ask_reasons.specs.LastQuestion.{question_behind}
-use Rattle.ask_reasons.specs.QuestionText.{question_text}
+use Rattle.trace_check.specs.LastQuestion.{question_behind}
+use Rattle.trace_check.specs.QuestionText.{question_text}
 use Rattle.terminal_at_reader.specs.Settlement.{settled_line, settlement_line, settlement_reply, settlement_unread}
 use Rattle.terminal_at_reader.specs.Till.{TillData, new_till, till_begun, till_broken_off, till_ended, till_lost, till_lost_captured, till_settled}
-use Rattle.ask_reasons.specs.declared.question.Question.{Question}
+use Rattle.trace_check.specs.declared.question.Question.{Question}
 use Rattle.terminal_at_reader.specs.declared.work.Phase.TheVariants as phase
 use Rattle.terminal_at_reader.specs.declared.work.Work.{Work}
 
@@ -244,7 +244,7 @@ pub record IsTurnOf (work : Work) (text : List ℕ) (onward : Onward) (turn : Te
   pub works : GoesOn turn.onward → WorksAt work turn.doing turn.till
 
 -- the first purchase of a lane has begun, and asks the card
-pub record HasOpened (lane : LaneData) (work : Work) : Type 0 where
+pub record HasBegunFirst (lane : LaneData) (work : Work) : Type 0 where
   pub planned : Planned
   pub first : slice_get lane.purchases 0 ≡ Some planned
   pub live : IsLive (outset_of_planned lane planned) work.kernel []
@@ -258,7 +258,7 @@ pub record HasAskedSo (lane : LaneData) (work : Work) (turns : List Turn) : Type
   pub few : length lane.purchases ≤ most_purchases
   pub talked : TerminalTalked lane turns doing till
   pub works : GoesOn (onward_behind (terminal_opening lane).onward turns) → WorksAt work doing till
-  pub first : turns ≡ [] → HasOpened lane work
+  pub first : turns ≡ [] → HasBegunFirst lane work
 
 -- the replies among entries, to a terminal with this log
 abbrev pub replies_heard : List Logged → List Entry → List Reply

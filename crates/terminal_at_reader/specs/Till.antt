@@ -4,7 +4,7 @@ use Rattle.emv_dict.specs.declared.ending.Ending.{Ending}
 use Rattle.emv_dict.specs.declared.ending.Ending.TheVariants.{Approved, Declined, Terminated, CutOff}
 use Rattle.emv_dict.specs.declared.purchase.Logged.{Logged}
 use Rattle.kernel.specs.EndShown.{EndShown}
-use Rattle.ask_reasons.specs.declared.question.Question.{Question}
+use Rattle.trace_check.specs.declared.question.Question.{Question}
 
 -- how many have begun, the log of those that were approved, the messages that wait for settlement, oldest first, the last
 -- question of the purchase that ended last, where it had one, and how long log and messages were before that purchase, or

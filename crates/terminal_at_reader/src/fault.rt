@@ -4,7 +4,7 @@ ghost use Rattle.arrayvec.specs.ArrayVec.{array_vec_len};
 ghost use Rattle.terminal_at_reader.specs.Hearing as spec;
 
 use auth_message::MessageFault;
-use fault_words::{put_iso_fault, put_message_fault};
+use host_link::{put_iso_fault, put_message_fault};
 use iso_message::IsoFault;
 use report_text::Text;
 use report_text::pieces::append;

@@ -11,7 +11,7 @@ use crate::hearing::hear;
 use crate::losing::break_off;
 use crate::saying::{put_fault, put_other, put_why};
 use crate::work::{Phase, Work};
-use ask_reasons::last_question;
+use trace_check::last_question;
 use kernel::{Next, Tally};
 use line_talk::{LineText, Onward};
 use std::alloc::{AllocError, Global};

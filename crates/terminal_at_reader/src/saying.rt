@@ -1,12 +1,12 @@
 //! Lines that tell what can't be taken, and what a question rests on.
 ghost use Rattle.std.specs.Prelude.{◌≡◌, OnOk, IfOk};
-ghost use Rattle.ask_reasons.specs.QuestionText.{question_text};
+ghost use Rattle.trace_check.specs.QuestionText.{question_text};
 ghost use Rattle.line_talk.specs.Talk.{other_line};
 ghost use Rattle.line_talk.specs.declared.party.Onward.TheVariants as way;
 ghost use Rattle.terminal_at_reader.specs.Hearing.{fault_line};
 
 use crate::fault::{ReplyFault, tell_fault};
-use ask_reasons::{Question, tell_question};
+use trace_check::{Question, tell_question};
 use line_talk::{LineText, Onward, put_line};
 use std::alloc::AllocError;
 

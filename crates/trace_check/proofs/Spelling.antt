@@ -12,14 +12,14 @@ use Rattle.hex.specs.Hex.{decode_of, encode_lower, IsBytes}
 use Rattle.hex.specs.declared.error.FromHexError.{FromHexError}
 use Rattle.report_text.specs.Pieces.{hex_or_dash}
 use Rattle.trace_check.proofs.Left.{same_bytes}
-use Rattle.trace_check.specs.Texts.{behind, decoded_or_none, bytes_shown, most_in, entry_of_form, shown_in, if_behind, with_bytes, entry_of_text, entry_text, Fits, IsEntry}
+use Rattle.trace_check.specs.Texts.{marked_rest, decoded_or_none, bytes_shown, most_in, entry_of_form, shown_in, if_behind, with_bytes, entry_of_text, entry_text, Fits, IsEntry}
 use Rattle.trace_check.specs.declared.entry.Entry.{Entry}
 use Rattle.trace_check.specs.declared.entry.Entry.TheVariants.{ToCard, CardSaid, CardGone, ToHost, HostSaid, HostSilent, End}
 use Rattle.trace_check.specs.declared.entry.Form.{Form}
 use Rattle.trace_check.specs.declared.entry.Form.TheVariants as form
 
 -- a text with this mark in front
-behind_is : (mark text rest : List ℕ) → behind mark text ≡ Some rest → text ≡ mark ++ rest
+behind_is : (mark text rest : List ℕ) → marked_rest mark text ≡ Some rest → text ≡ mark ++ rest
 behind_is mark text rest is = by (bytes_eq (take (length mark) text) mark) refl is
   where
     by : (test : Bool) → bytes_eq (take (length mark) text) mark ≡ test → (if test then Some (drop (length mark) text) else None) ≡ Some rest → text ≡ mark ++ rest
@@ -126,7 +126,7 @@ text_of_form form.ToHost bytes = refl
 text_of_form form.HostSaid bytes = refl
 
 -- behind a form's mark its bytes are shown
-shown_behind : (f : Form) (text shown : List ℕ) (entry : Entry) → behind (mark_of f) text ≡ Some shown → shown_in f shown ≡ Some entry → IsText text entry
+shown_behind : (f : Form) (text shown : List ℕ) (entry : Entry) → marked_rest (mark_of f) text ≡ Some shown → shown_in f shown ≡ Some entry → IsText text entry
 shown_behind f text shown entry marked is = by (bytes_shown (most_in f) shown) refl is
   where
     by : (found : Option (List ℕ)) → bytes_shown (most_in f) shown ≡ found → option_map (entry_of_form f) found ≡ Some entry → (text ≡ entry_text entry) × IsEntry entry
@@ -140,10 +140,10 @@ shown_behind f text shown entry marked is = by (bytes_shown (most_in f) shown) r
 
 -- a form that is tried, and others behind it
 tried : (f : Form) (text : List ℕ) (entry : Entry) (others : Option Entry) → (others ≡ Some entry → IsText text entry)
-    → if_behind (behind (mark_of f) text) (shown_in f) others ≡ Some entry → IsText text entry
-tried f text entry others rest is = by (behind (mark_of f) text) refl is
+    → if_behind (marked_rest (mark_of f) text) (shown_in f) others ≡ Some entry → IsText text entry
+tried f text entry others rest is = by (marked_rest (mark_of f) text) refl is
   where
-    by : (found : Option (List ℕ)) → behind (mark_of f) text ≡ found → if_behind found (shown_in f) others ≡ Some entry → IsText text entry
+    by : (found : Option (List ℕ)) → marked_rest (mark_of f) text ≡ found → if_behind found (shown_in f) others ≡ Some entry → IsText text entry
     by None none same = rest same
     by (Some shown) found same = shown_behind f text shown entry found same
 
@@ -157,7 +157,7 @@ pub text_is : (text : List ℕ) (entry : Entry) → entry_of_text text ≡ Some 
 unfolding entry_of_text
 text_is text entry is = by_gone (bytes_eq text (codes "< gone")) refl is
   where
-    by_end : (found : Option (List ℕ)) → behind (codes "end ") text ≡ found → if_behind found (λ rest. Some (End rest)) (with_bytes text) ≡ Some entry
+    by_end : (found : Option (List ℕ)) → marked_rest (codes "end ") text ≡ found → if_behind found (λ rest. Some (End rest)) (with_bytes text) ≡ Some entry
         → (text ≡ entry_text entry) × IsEntry entry
     by_end None none same = bytes_text text entry same
     by_end (Some rest) found same =
@@ -165,17 +165,17 @@ text_is text entry is = by_gone (bytes_eq text (codes "< gone")) refl is
         subst (λ (e : Entry). (text ≡ entry_text e) × IsEntry e) one (behind_is (codes "end ") text rest found, tt)
 
     by_silent : (test : Bool) → bytes_eq text (codes "host < none") ≡ test
-        → (if test then Some HostSilent else if_behind (behind (codes "end ") text) (λ rest. Some (End rest)) (with_bytes text)) ≡ Some entry
+        → (if test then Some HostSilent else if_behind (marked_rest (codes "end ") text) (λ rest. Some (End rest)) (with_bytes text)) ≡ Some entry
         → (text ≡ entry_text entry) × IsEntry entry
     by_silent true found same =
         let one : HostSilent ≡ entry = cc same in
         subst (λ (e : Entry). (text ≡ entry_text e) × IsEntry e) one ((bytes_eq-Decides text (codes "host < none")).0 found, tt)
-    by_silent false none same = by_end (behind (codes "end ") text) refl same
+    by_silent false none same = by_end (marked_rest (codes "end ") text) refl same
 
     by_gone : (test : Bool) → bytes_eq text (codes "< gone") ≡ test
         → (if test then Some CardGone
         else if bytes_eq text (codes "host < none") then Some HostSilent
-        else if_behind (behind (codes "end ") text) (λ rest. Some (End rest)) (with_bytes text)) ≡ Some entry
+        else if_behind (marked_rest (codes "end ") text) (λ rest. Some (End rest)) (with_bytes text)) ≡ Some entry
         → (text ≡ entry_text entry) × IsEntry entry
     by_gone true found same =
         let one : CardGone ≡ entry = cc same in

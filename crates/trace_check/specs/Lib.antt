@@ -4,3 +4,5 @@ pub mod Laws
 pub mod Loop
 pub mod Texts
 pub mod Verdicts
+pub mod LastQuestion
+pub mod QuestionText

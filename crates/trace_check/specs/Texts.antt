@@ -10,8 +10,8 @@ use Rattle.trace_check.specs.declared.entry.Form.{Form}
 use Rattle.trace_check.specs.declared.entry.Form.TheVariants as form
 
 -- what stands behind a mark
-abbrev pub behind : List ℕ → List ℕ → Option (List ℕ)
-behind mark text = (if bytes_eq (take (length mark) text) mark then Some (drop (length mark) text) else None)
+abbrev pub marked_rest : List ℕ → List ℕ → Option (List ℕ)
+marked_rest mark text = (if bytes_eq (take (length mark) text) mark then Some (drop (length mark) text) else None)
 
 abbrev pub decoded_or_none : Result (List ℕ) FromHexError → List ℕ
 decoded_or_none (Ok bytes) = bytes
@@ -46,17 +46,17 @@ if_behind (Some rest) found other = found rest
 
 unfoldable pub with_bytes : List ℕ → Option Entry
 with_bytes text =
-    if_behind (behind (codes "> ") text) (shown_in form.ToCard)
-    (if_behind (behind (codes "< ") text) (shown_in form.CardSaid)
-    (if_behind (behind (codes "host > ") text) (shown_in form.ToHost)
-    (if_behind (behind (codes "host < ") text) (shown_in form.HostSaid) None)))
+    if_behind (marked_rest (codes "> ") text) (shown_in form.ToCard)
+    (if_behind (marked_rest (codes "< ") text) (shown_in form.CardSaid)
+    (if_behind (marked_rest (codes "host > ") text) (shown_in form.ToHost)
+    (if_behind (marked_rest (codes "host < ") text) (shown_in form.HostSaid) None)))
 
 -- the entry that a text is
 unfoldable pub entry_of_text : List ℕ → Option Entry
 entry_of_text text =
     if bytes_eq text (codes "< gone") then Some CardGone
     else if bytes_eq text (codes "host < none") then Some HostSilent
-    else if_behind (behind (codes "end ") text) (λ rest. Some (End rest)) (with_bytes text)
+    else if_behind (marked_rest (codes "end ") text) (λ rest. Some (End rest)) (with_bytes text)
 
 -- the text that an entry has
 abbrev pub entry_text : Entry → List ℕ

@@ -4,7 +4,7 @@ use Rattle.app_select.specs.Said.{select_command}
 use Rattle.card_app.specs.Answering.{card_answer}
 use Rattle.card_files.specs.Views.{AppData}
 use Rattle.card_app.specs.SeenIcc.{IccSeen, IccOn}
-use Rattle.card_pages.specs.Pages.{found_of}
+use Rattle.card_app.specs.Pages.{found_of}
 use Rattle.report_text.specs.declared.line.Line.{Line}
 use Rattle.risk_mgmt.specs.Counters.{counter_tag, last_online_tag, get_data}
 use Rattle.scenario_plan.specs.Cards.{CardData}

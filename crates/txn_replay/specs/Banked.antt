@@ -7,7 +7,7 @@ use Rattle.capture_store.specs.StoreRow.{StoreRow, new_store}
 use Rattle.card_app.specs.SeenIcc.{IccSeen, IccOn, IccOff, icc_losses}
 use Rattle.card_app.specs.Session.{Exchange}
 use Rattle.card_files.specs.Files.{opening_of}
-use Rattle.card_pages.specs.Pages.{MayStand, StandsFor}
+use Rattle.card_app.specs.Pages.{MayStand, StandsFor}
 use Rattle.card_state.specs.Decisions.{Decided}
 use Rattle.emv_ports.specs.Memory.{Memory, IsBlank}
 use Rattle.emv_ports.specs.declared.tear.Tear.{Tear}

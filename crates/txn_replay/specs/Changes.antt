@@ -6,8 +6,8 @@ use Rattle.card_app.specs.Session.{phase_of}
 use Rattle.card_cryptogram.specs.Phases.{current}
 use Rattle.card_files.specs.Files.{opening_of}
 use Rattle.card_files.specs.Views.{ImageData}
-use Rattle.card_pages.specs.Cuts.{Cut, fate_by, kept_by, pending_by}
-use Rattle.card_pages.specs.Replies.{CardAnswer}
+use Rattle.card_app.specs.Cuts.{Cut, fate_by, kept_by, pending_by}
+use Rattle.card_app.specs.PageReplies.{CardAnswer}
 use Rattle.card_state.specs.Decisions.{Decided}
 use Rattle.card_state.specs.Totals.{totals}
 use Rattle.card_state.specs.declared.state.AppState.{AppState}

@@ -1,6 +1,6 @@
 -- The lines of a report that a run makes (this project's own).
 use Rattle.std.specs.Prelude.{ℕ, Bool, if◌then◌else◌, List, [], ◌∷◌, Option, Some, None, option_map}
-use Rattle.card_counters.specs.Counters.{shown_all}
+use Rattle.card_app.specs.Counters.{shown_all}
 use Rattle.card_files.specs.Files.{opening_of}
 use Rattle.card_state.specs.Decisions.{Decided}
 use Rattle.card_state.specs.Totals.{totals}

@@ -4,7 +4,7 @@ use Rattle.std.specs.List.{All}
 use Rattle.capture_store.specs.ListPages.{MayStandForList}
 use Rattle.capture_store.specs.SeenLaneStore.{LaneStoreSeen}
 use Rattle.card_files.specs.Files.{opening_of}
-use Rattle.card_pages.specs.Pages.{MayStand}
+use Rattle.card_app.specs.Pages.{MayStand}
 use Rattle.emv_ports.specs.Memory.{Memory, IsBlank}
 use Rattle.emv_ports.specs.declared.tear.Tear.{Tear}
 use Rattle.issuer_host.specs.History.{HostData, HostStands}

@@ -1,7 +1,7 @@
 //! The audit: each card with applications is powered up, and each of these is asked for its counters.
 ghost use Rattle.std.specs.Prelude.{◌≡◌, ◌≤◌, ◌<◌, ◌+◌, ◌*◌, ◌∷◌, [], ℕ, Bool, true, None, option_map, slice_get, length, IfSome};
 ghost use Rattle.card_app.specs.SeenIcc.{IccOn, IccOff, icc_is_powered as icc_on};
-ghost use Rattle.card_pages.specs.Pages.{found_of};
+ghost use Rattle.card_app.specs.Pages.{found_of};
 ghost use Rattle.risk_mgmt.specs.Counters.{get_data};
 ghost use Rattle.scenario_plan.specs.Cards.{CardData};
 ghost use Rattle.scenario_plan.specs.SeenCards.{image_of, canned_of, seen_card, seen_cards};

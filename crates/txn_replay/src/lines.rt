@@ -1,6 +1,6 @@
 //! The lines of a report, as they are made.
 ghost use Rattle.std.specs.Prelude.{◌≡◌, ◌≤◌, ◌<◌, ◌∷◌, [], length, option_map, IfSome};
-ghost use Rattle.card_counters.specs.Counters.{shown_all};
+ghost use Rattle.card_app.specs.Counters.{shown_all};
 ghost use Rattle.kernel.specs.Ended.{EndData};
 ghost use Rattle.kernel.specs.EndShown.{shown_end};
 ghost use Rattle.report_text.specs.declared.line.Line.TheVariants.{Power, PowerCanned, PowerTorn, AuditPower, AuditAsk, AuditAnswer};
@@ -8,7 +8,7 @@ ghost use Rattle.txn_replay.specs.Lines as spec;
 
 use arrayvec::ArrayVec;
 use ber_tlv::append;
-use card_counters::shown_all;
+use card_app::shown_all;
 use card_files::Image;
 use card_state::CardState;
 use kernel::EndRecord;

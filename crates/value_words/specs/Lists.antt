@@ -3,7 +3,7 @@
 use Rattle.std.specs.Prelude.{ℕ, ◌/◌, ◌%◌, ◌==◌, Bool, false, not, ◌&&◌, nat_le, if◌then◌else◌, List, [], ◌∷◌, ◌++◌, length, map, take, drop, slice_index, codes, Option, Some, None}
 use Rattle.report_lines.specs.Pieces.{Piece, line, text, number, hex, joined, reference, reference_or_none}
 use Rattle.ber_tlv.specs.Written.{tag_bytes}
-use Rattle.book_sections.specs.References.{outcome_reference, verification_reference}
+use Rattle.report_lines.specs.References.{outcome_reference, verification_reference}
 use Rattle.report_lines.specs.Tables.{word_in}
 use Rattle.value_words.specs.declared.codes.TheConstants.{OUTCOMES}
 use Rattle.value_words.specs.Fields.{list_entries, is_whole_list}

@@ -2,8 +2,8 @@
 use Rattle.std.specs.Prelude.{ℕ, ◌+◌, ◌*◌, ◌/◌, ◌%◌, ◌==◌, if◌then◌else◌, List, [], ◌∷◌, ◌++◌, map, codes, Option, Some, None}
 use Rattle.report_lines.specs.Pieces.{Piece, line, text, number, hex, word_or, reference, reference_or_none}
 use Rattle.apdu_core.specs.Status.{status_counter}
-use Rattle.book_sections.specs.References.{status_reference}
-use Rattle.book_sections.specs.declared.references.TheConstants.{TRIES_LEFT}
+use Rattle.report_lines.specs.References.{status_reference}
+use Rattle.report_lines.specs.declared.references.TheConstants.{TRIES_LEFT}
 use Rattle.report_lines.specs.Tables.{word_in}
 use Rattle.value_words.specs.declared.codes.TheConstants.{ANSWERS, STATUSES}
 use Rattle.emv_dict.specs.declared.ending.Kind.{Kind}

@@ -1,6 +1,6 @@
 //! What the tables hold.
 ghost use Rattle.std.specs.Prelude.{◌≡◌, map, IsTrue};
-ghost use Rattle.book_sections.specs.declared.references.TheConstants.{ANSWER_REFERENCES, METHOD_REFERENCES, OUTCOME_REFERENCES, RESPONSE_REFERENCES, RESULT_REFERENCES, STATUS_REFERENCES, STATUS_WORD_REFERENCES};
+ghost use Rattle.report_lines.specs.declared.references.TheConstants.{ANSWER_REFERENCES, METHOD_REFERENCES, OUTCOME_REFERENCES, RESPONSE_REFERENCES, RESULT_REFERENCES, STATUS_REFERENCES, STATUS_WORD_REFERENCES};
 ghost use Rattle.emv_dict.specs.Dictionary.{dictionary};
 ghost use Rattle.value_words.specs.Words.{have_names, are_distinct_texts, are_distinct, tvr_bit_numbers};
 

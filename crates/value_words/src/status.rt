@@ -6,7 +6,7 @@ ghost use Rattle.report_lines.specs.Pieces.{Tells};
 use crate::codes::{ANSWERS, STATUSES};
 use crate::phrases::WRONG_PIN;
 use apdu_core::status::counter_in as tries_in;
-use book_sections::{TRIES_LEFT, status_reference};
+use report_lines::{TRIES_LEFT, status_reference};
 use report_lines::{WordLines, word_of};
 
 /// The tries that a status of VERIFY leaves; `None` where it is another command's, or tells none.

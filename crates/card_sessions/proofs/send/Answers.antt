@@ -1,7 +1,7 @@
 -- The card stands for the longer session, or its pages for what the cut leaves.
 use Rattle.std.proofs.Common.{◌+◌, [], ◌∷◌, ◌++◌, length}
 use Rattle.card_app.specs.Answering.{card_answer}
-use Rattle.card_pages.specs.Cuts.{fate_by, kept_by, pending_by}
+use Rattle.card_app.specs.Cuts.{fate_by, kept_by, pending_by}
 use Rattle.card_sessions.proofs.send.Goals as goal
 
 pub returns-in-Ok-clause-on : goal.returns-in-Ok-clause-on

@@ -1,6 +1,6 @@
 -- The card stands for the decisions that were found, at the start of a session.
 use Rattle.std.proofs.Common.{[]}
-use Rattle.card_pages.specs.Pages.{found_of}
+use Rattle.card_app.specs.Pages.{found_of}
 use Rattle.card_sessions.proofs.turn_on.Goals as goal
 
 pub returns-in-Ok-clause-on : goal.returns-in-Ok-clause-on

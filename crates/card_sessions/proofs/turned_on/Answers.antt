@@ -2,7 +2,7 @@
 use Rattle.std.proofs.Common.{[], sym, subst}
 use Rattle.emv_ports.specs.Memory.{Memory}
 use Rattle.card_files.specs.Files.{opening_of}
-use Rattle.card_pages.specs.Pages.{MayStand, found_of}
+use Rattle.card_app.specs.Pages.{MayStand, found_of}
 use Rattle.card_sessions.proofs.turned_on.Goals as goal
 
 pub returns-in-Ok-clause-on : goal.returns-in-Ok-clause-on

@@ -9,7 +9,7 @@ use Rattle.std.proofs.lemmas.List.Sums.{length-filter}
 use Rattle.std.proofs.lemmas.Option.{same_Some}
 use Rattle.card_app.specs.Answering.{card_answer}
 use Rattle.card_files.specs.Views.{AppData}
-use Rattle.card_pages.specs.Pages.{found_of}
+use Rattle.card_app.specs.Pages.{found_of}
 use Rattle.scenario_plan.specs.Cards.{CardData}
 use Rattle.scenario_plan.specs.Plan.{ScenarioData, IsScenario}
 use Rattle.txn_replay.specs.Alone.{is_card_of, is_name_of, before_own, cards_alone, alone, PartsAgree, is_own}

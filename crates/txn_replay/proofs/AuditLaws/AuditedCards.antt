@@ -6,7 +6,7 @@ use Rattle.std.proofs.lemmas.Option.{same_Some}
 use Rattle.card_app.specs.Answering.{card_answer}
 use Rattle.card_app.specs.SeenIcc.{IccSeen, IccOn, IccOff, IccAnswered}
 use Rattle.card_files.specs.Views.{ImageData}
-use Rattle.card_pages.specs.Cuts.{cut_of, behind_one}
+use Rattle.card_app.specs.Cuts.{cut_of, behind_one}
 use Rattle.card_state.specs.Decisions.{Decided}
 use Rattle.report_text.specs.declared.line.Line.{Line}
 use Rattle.scenario_plan.specs.Cards.{CardData}

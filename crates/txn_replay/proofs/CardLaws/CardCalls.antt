@@ -7,7 +7,7 @@ use Rattle.card_app.specs.Answering.{card_answer}
 use Rattle.card_app.specs.SeenIcc.{IccSeen, IccOn, IccAnswered, IccCut, icc_losses}
 use Rattle.card_app.specs.Session.{Exchange}
 use Rattle.card_files.specs.Views.{ImageData}
-use Rattle.card_pages.specs.Cuts.{cut_of}
+use Rattle.card_app.specs.Cuts.{cut_of}
 use Rattle.card_state.specs.Decisions.{Decided}
 use Rattle.emv_ports.specs.Causes.{one_more}
 use Rattle.emv_ports.specs.declared.tear.Tear.{Tear}

@@ -9,9 +9,9 @@ use Rattle.card_app.specs.Answering.{card_answer}
 use Rattle.card_app.specs.Session.{phase_of}
 use Rattle.card_cryptogram.specs.Phases.{current}
 use Rattle.card_files.specs.Views.{ImageData}
-use Rattle.card_pages.specs.Cuts.{Cut, Fate, Dropped, Joined, Pending, fate_by, kept_by}
-use Rattle.card_pages.specs.Pages.{found_of}
-use Rattle.card_pages.specs.Replies.{CardAnswer}
+use Rattle.card_app.specs.Cuts.{Cut, Fate, Dropped, Joined, Pending, fate_by, kept_by}
+use Rattle.card_app.specs.Pages.{found_of}
+use Rattle.card_app.specs.PageReplies.{CardAnswer}
 use Rattle.card_state.specs.Decisions.{Decided}
 use Rattle.emv_ports.specs.declared.tear.Tear.{Tear}
 use Rattle.txn_replay.specs.Changes.{is_generate, is_good, app_counter, given_for, given_by, powered, exchanged, row_torn, freed}

@@ -7,9 +7,9 @@ use Rattle.std.proofs.lemmas.List.Sums.{sum_by-append}
 use Rattle.std.proofs.lemmas.Option.{slice_get_within}
 use Rattle.capture_store.specs.StoreRow.{opened_to_add, is_next_cut}
 use Rattle.card_app.specs.Answering.{card_answer}
-use Rattle.card_pages.specs.Cuts.{Cut, cut_of}
-use Rattle.card_pages.specs.Pages.{found_of}
-use Rattle.card_pages.specs.Replies.{CardAnswer}
+use Rattle.card_app.specs.Cuts.{Cut, cut_of}
+use Rattle.card_app.specs.Pages.{found_of}
+use Rattle.card_app.specs.PageReplies.{CardAnswer}
 use Rattle.emv_ports.specs.Cut.{names_commit}
 use Rattle.host_link.specs.Delivery.{delivered, heard}
 use Rattle.issuer_host.specs.History.{host_reply}

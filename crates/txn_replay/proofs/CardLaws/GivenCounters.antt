@@ -20,7 +20,7 @@ use Rattle.card_cryptogram.specs.declared.phase.Phase.{Phase}
 use Rattle.card_cryptogram.specs.declared.phase.Phase.TheVariants.{Idle, Directory, Selected, Started, Online, Closed, Done}
 use Rattle.card_files.specs.Files.{opening_of}
 use Rattle.card_files.specs.Views.{AppData, ImageData}
-use Rattle.card_pages.specs.Replies.{CardReplyData, refused}
+use Rattle.card_app.specs.PageReplies.{CardReplyData, refused}
 use Rattle.card_state.specs.Change.{changed}
 use Rattle.card_state.specs.Decisions.{Decided, is_start}
 use Rattle.card_state.specs.Totals.{totals}

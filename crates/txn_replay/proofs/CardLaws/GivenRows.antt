@@ -10,8 +10,8 @@ use Rattle.capture_store.specs.StoreRow.{StoreRow, opened_to_add}
 use Rattle.card_app.specs.Answering.{card_answer}
 use Rattle.card_app.specs.Session.{phase_of}
 use Rattle.card_cryptogram.specs.Phases.{current}
-use Rattle.card_pages.specs.Pages.{found_of}
-use Rattle.card_pages.specs.Replies.{CardAnswer}
+use Rattle.card_app.specs.Pages.{found_of}
+use Rattle.card_app.specs.PageReplies.{CardAnswer}
 use Rattle.issuer_host.specs.History.{host_reply}
 use Rattle.kernel.specs.Ended.{EndData}
 use Rattle.kernel.specs.Reply.{Reply}

@@ -4,7 +4,8 @@ use Rattle.std.proofs.Common.{◌≡◌, ◌⊎◌, ℕ, zero, suc, List, [], �
 use Rattle.std.specs.List.{Contains}
 use Rattle.std.proofs.lemmas.Option.{same_Some}
 use Rattle.card_files.specs.Files.{opening_of}
-use Rattle.card_pages.specs.Pages.{Cells, HoldsTotals, IsFresh, StandsFor, MayStand}
+use Rattle.card_app.specs.Pages.{HoldsTotals, IsFresh, StandsFor, MayStand}
+use Rattle.emv_ports.specs.Cell.{Cells}
 use Rattle.card_state.specs.Decisions.{Decided}
 use Rattle.card_state.specs.Encoding.{encoding, encoding_one, IsCardState}
 use Rattle.card_state.specs.Layout.{decoded, decoded_one}

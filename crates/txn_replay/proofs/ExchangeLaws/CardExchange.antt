@@ -4,7 +4,7 @@ use Rattle.std.proofs.Common.{◌≡◌, ℕ, ◌+◌, List, [], ◌∷◌, ◌+
 use Rattle.std.specs.Global.{Box}
 use Rattle.capture_store.specs.SeenLaneStore.{LaneStoreSeen}
 use Rattle.card_app.specs.Answering.{card_answer}
-use Rattle.card_pages.specs.Cuts.{Cut}
+use Rattle.card_app.specs.Cuts.{Cut}
 use Rattle.kernel.specs.Ended.{EndData}
 use Rattle.kernel.specs.Kernel.{KernelData, KernelStands, outset_in}
 use Rattle.kernel.specs.Reply.{Reply, CardSaid, CardGone}

@@ -3,8 +3,8 @@
 use Rattle.std.proofs.Common.{◌≡◌, ℕ, ◌+◌, Bool, true, false, List, [], ◌∷◌, ◌++◌, length, slice_get, Option, Some, None, refl}
 use Rattle.capture_store.specs.StoreRow.{opened_to_add, is_next_cut}
 use Rattle.card_app.specs.Answering.{card_answer}
-use Rattle.card_pages.specs.Cuts.{Cut, cut_of}
-use Rattle.card_pages.specs.Pages.{found_of}
+use Rattle.card_app.specs.Cuts.{Cut, cut_of}
+use Rattle.card_app.specs.Pages.{found_of}
 use Rattle.emv_ports.specs.Cut.{names_commit}
 use Rattle.host_link.specs.Delivery.{delivered, heard}
 use Rattle.issuer_host.specs.History.{host_reply}

@@ -4,7 +4,7 @@ use Rattle.std.proofs.Common.{◌≡◌, ◌+◌, Bool, ℕ, List, [], ◌∷◌
 use Rattle.std.specs.Global.{Box}
 use Rattle.std.specs.Prelude.{IsSomeAnd}
 use Rattle.capture_store.specs.SeenLaneStore.{LaneStoreSeen}
-use Rattle.card_pages.specs.Pages.{found_of}
+use Rattle.card_app.specs.Pages.{found_of}
 use Rattle.card_state.specs.Decisions.{Decided}
 use Rattle.kernel.specs.Ended.{EndData}
 use Rattle.kernel.specs.Kernel.{KernelData}

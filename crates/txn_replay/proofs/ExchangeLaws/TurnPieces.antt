@@ -5,9 +5,9 @@ use Rattle.std.specs.Global.{Box}
 use Rattle.std.specs.Prelude.{is_none, option_map}
 use Rattle.capture_store.specs.SeenLaneStore.{LaneStoreSeen}
 use Rattle.card_app.specs.Answering.{card_answer}
-use Rattle.card_pages.specs.Cuts.{Cut, cut_of}
-use Rattle.card_pages.specs.Pages.{found_of}
-use Rattle.card_pages.specs.Replies.{CardAnswer}
+use Rattle.card_app.specs.Cuts.{Cut, cut_of}
+use Rattle.card_app.specs.Pages.{found_of}
+use Rattle.card_app.specs.PageReplies.{CardAnswer}
 use Rattle.card_state.specs.Decisions.{Decided}
 use Rattle.emv_ports.specs.Cut.{names_commit}
 use Rattle.kernel.specs.Dialogue.{dialogue}

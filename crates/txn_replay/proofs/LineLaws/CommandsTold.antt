@@ -8,8 +8,8 @@ use Rattle.std.proofs.lemmas.Option.{same_Some}
 use Rattle.arrayvec.specs.ArrayVec.{ArrayVec}
 use Rattle.capture_store.specs.StoreRow.{opened_to_add, is_next_cut}
 use Rattle.card_app.specs.Answering.{card_answer}
-use Rattle.card_pages.specs.Cuts.{Cut, cut_of}
-use Rattle.card_pages.specs.Pages.{found_of}
+use Rattle.card_app.specs.Cuts.{Cut, cut_of}
+use Rattle.card_app.specs.Pages.{found_of}
 use Rattle.emv_ports.specs.Cut.{names_commit}
 use Rattle.host_link.specs.Delivery.{heard}
 use Rattle.issuer_host.specs.Account.{AccountData}

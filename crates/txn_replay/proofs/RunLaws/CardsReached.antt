@@ -4,7 +4,7 @@ use Rattle.std.proofs.Common.{◌≡◌, ℕ, ◌+◌, Bool, List, slice_get, Op
 use Rattle.std.proofs.lemmas.Option.{same_Some}
 use Rattle.card_app.specs.Answering.{card_answer}
 use Rattle.card_files.specs.Views.{ImageData}
-use Rattle.card_pages.specs.Pages.{found_of}
+use Rattle.card_app.specs.Pages.{found_of}
 use Rattle.report_text.specs.declared.line.Line.{Line}
 use Rattle.scenario_plan.specs.Cards.{CardData}
 use Rattle.scenario_plan.specs.Plan.{ScenarioData}

@@ -6,8 +6,9 @@ use Rattle.std.proofs.lemmas.Bool.{eqb-true, eq-eqb, cases_lt}
 use Rattle.std.proofs.lemmas.Option.{same_Some}
 use Rattle.capture_store.specs.Calls.{Call, Adds, Drops, list_found, call_left_at, call_left_by}
 use Rattle.capture_store.specs.StoreRow.{StoreRow, commit_next, is_next_cut, store_opened, opened_to_add, opened_to_settle, made_call, cut_call, call_under_plan, ended_by}
-use Rattle.card_pages.specs.Cuts.{Cut, Dropped, Pending, commit_of, behind_one, cut_of, fate_by, pending_by}
-use Rattle.card_pages.specs.Pages.{found_of}
+use Rattle.card_app.specs.Cuts.{Cut, Dropped, Pending, behind_one, cut_of, fate_by, pending_by}
+use Rattle.emv_ports.specs.Cut.{commit_of}
+use Rattle.card_app.specs.Pages.{found_of}
 use Rattle.card_state.specs.Decisions.{Decided}
 use Rattle.emv_ports.specs.Cut.{names_commit}
 use Rattle.emv_ports.specs.declared.tear.Tear.{Tear}

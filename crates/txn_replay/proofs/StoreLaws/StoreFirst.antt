@@ -11,7 +11,8 @@ use Rattle.auth_message.specs.Whole.{IsMessage}
 use Rattle.capture_store.proofs.Sendings.{leaves_one}
 use Rattle.capture_store.specs.Calls.{Call, Adds, Drops, list_found}
 use Rattle.capture_store.specs.SeenLaneStore.{LaneStoreSeen, LaneStoreOn, LaneStoreOff, store_losses, has_power, count_of}
-use Rattle.capture_store.specs.StoreRow.{StoreRow, commit_of, is_next_cut, store_opened, opened_to_add, made_call, cut_call, call_under_plan, delivered_by, ended_by}
+use Rattle.capture_store.specs.StoreRow.{StoreRow, is_next_cut, store_opened, opened_to_add, made_call, cut_call, call_under_plan, delivered_by, ended_by}
+use Rattle.emv_ports.specs.Cut.{commit_of}
 use Rattle.emv_ports.specs.Causes.{one_more}
 use Rattle.emv_ports.specs.Cut.{names_commit}
 use Rattle.emv_ports.specs.declared.tear.Tear.{Tear}

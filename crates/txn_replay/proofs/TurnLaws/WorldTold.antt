@@ -12,7 +12,7 @@ use Rattle.auth_message.specs.Whole.{IsMessage}
 use Rattle.std.proofs.lemmas.Option.{slice_get_within, slice_get_past, get_or_from_slice_get}
 use Rattle.card_files.specs.Files.{opening_of}
 use Rattle.card_files.specs.Views.{ImageData}
-use Rattle.card_pages.specs.Pages.{MayStand}
+use Rattle.card_app.specs.Pages.{MayStand}
 use Rattle.card_state.specs.Decisions.{Decided}
 use Rattle.emv_ports.specs.Memory.{Memory, IsBlank}
 use Rattle.emv_ports.specs.declared.tear.Tear.{Tear}

@@ -1,11 +1,11 @@
 -- Each kind of reply takes its decisions, or one of them is cut.
 use Rattle.std.proofs.Common.{[], sym, subst}
 use Rattle.std.proofs.lemmas.Result.{on_ok_weaker, on_err_weaker}
-use Rattle.card_pages.specs.Cuts.{Cut}
-use Rattle.card_pages.specs.SeenKept.{Took, CutAt}
+use Rattle.card_app.specs.Cuts.{Cut}
+use Rattle.card_app.specs.SeenKept.{Took, CutAt}
 use Rattle.card_app.specs.SeenReply.{reply_data}
 use Rattle.card_app.specs.declared.reply.Reply.{Reply}
-use Rattle.card_pages.proofs.Steps.{takes_none}
+use Rattle.card_app.proofs.Steps.{takes_none}
 use Rattle.card_app.proofs.icc.carry_out.Goals as goal
 
 pub returns-in-Plain-clause-takes : goal.returns-in-Plain-clause-takes

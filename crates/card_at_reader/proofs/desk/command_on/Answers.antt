@@ -2,7 +2,7 @@ use Rattle.std.proofs.Common.{◌≡◌, ◌++◌, ℕ, List, length, ap, sym, s
 use Rattle.card_app.specs.Answering.{card_answer}
 use Rattle.card_app.specs.SeenCard.{CardSeen}
 use Rattle.card_files.specs.Files.{opening_of}
-use Rattle.card_pages.specs.Cuts.{cut_of}
+use Rattle.card_app.specs.Cuts.{cut_of}
 use Rattle.card_words.specs.DecisionText.{told_behind}
 use Rattle.card_at_reader.specs.Desk.{IsTurn, answer_text, commanded}
 use Rattle.card_at_reader.specs.SincePower.{told_coming}

@@ -1,5 +1,5 @@
 use Rattle.std.proofs.Common.{List, ℕ, ◌++◌, codes, ap, append_assoc, ◌∙◌}
-use Rattle.fault_words.specs.FaultWords.{message_fault_words}
+use Rattle.host_link.specs.FaultWords.{message_fault_words}
 use Rattle.host_at_lines.proofs.told.put_fault.Goals as goal
 
 pub returns-clause-text : goal.returns-clause-text

@@ -3,9 +3,9 @@ use Rattle.std.specs.Str.{bytes_eq}
 use Rattle.trace_check.proofs.Spelling.{text_is}
 use Rattle.terminal_at_reader.proofs.Turning.{accepted, asked_why, broken_off, decided_is, if_other, if_so, is_taken, none_read, paying_more, refused, taken_as, wanted}
 use Rattle.terminal_at_reader.specs.Hearing.{fault_line, unread}
-use Rattle.ask_reasons.specs.QuestionText.{question_text}
+use Rattle.trace_check.specs.QuestionText.{question_text}
 use Rattle.terminal_at_reader.specs.Talk.{HasAmounts, IsTurnOf, asked_turn, lost_line, want_line, why_line}
-use Rattle.ask_reasons.specs.declared.question.Question.{Question}
+use Rattle.trace_check.specs.declared.question.Question.{Question}
 use Rattle.terminal_at_reader.proofs.paying.answer_paying.Goals as goal
 
 pub returns-then-eq : goal.returns-then-eq

@@ -4,9 +4,9 @@ use Rattle.std.specs.Str.{bytes_eq}
 use Rattle.terminal_at_reader.proofs.Turning.{if_other, if_so, replied, stuck_turn, turn_along, wanted_again, why_asked, why_told}
 use Rattle.terminal_at_reader.specs.Hearing.{fault_line}
 use Rattle.terminal_at_reader.specs.Settlement.{settlement_unread}
-use Rattle.ask_reasons.specs.QuestionText.{question_text}
+use Rattle.trace_check.specs.QuestionText.{question_text}
 use Rattle.terminal_at_reader.specs.Talk.{IsTurnOf, Settles, settlement_turn, want_line, why_line}
-use Rattle.ask_reasons.specs.declared.question.Question.{Question}
+use Rattle.trace_check.specs.declared.question.Question.{Question}
 use Rattle.terminal_at_reader.proofs.settling.answer_settling.Goals as goal
 
 pub returns-then-eq : goal.returns-then-eq

@@ -1,9 +1,9 @@
 use Rattle.std.proofs.Common.{◌≡◌, ◌∙◌, ap, Bool, List, ℕ, Option, [], true, false, subst, sym}
 use Rattle.std.specs.Str.{bytes_eq}
 use Rattle.terminal_at_reader.proofs.Turning.{if_other, if_so, losing_is, next_is, settle_is, turn_along, why_at_rest, why_told}
-use Rattle.ask_reasons.specs.QuestionText.{question_text}
+use Rattle.trace_check.specs.QuestionText.{question_text}
 use Rattle.terminal_at_reader.specs.Talk.{IsTurnOf, Rests, next_line, settle_line, settlement_turn, why_line}
-use Rattle.ask_reasons.specs.declared.question.Question.{Question}
+use Rattle.trace_check.specs.declared.question.Question.{Question}
 use Rattle.terminal_at_reader.proofs.terminal.answer_resting.Goals as goal
 
 pub returns-then-eq : goal.returns-then-eq

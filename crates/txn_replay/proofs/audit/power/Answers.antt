@@ -1,13 +1,13 @@
 use Rattle.std.proofs.Common.{◌≡◌, ℕ, List, [], ◌∷◌, None, ap, ◌∙◌}
 use Rattle.card_files.specs.Files.{opening_of}
 use Rattle.card_files.specs.Views.{ImageData}
-use Rattle.card_pages.specs.Pages.{found_of}
+use Rattle.card_app.specs.Pages.{found_of}
 use Rattle.card_state.specs.Decisions.{Decided}
 use Rattle.card_state.specs.Totals.{totals}
 use Rattle.card_state.specs.declared.state.CardState.{CardState}
 use Rattle.report_text.specs.declared.line.Line.TheVariants.{AuditPower}
 use Rattle.scenario_plan.specs.SeenCards.{image_of, seen_card}
-use Rattle.card_counters.specs.Counters.{shown_all}
+use Rattle.card_app.specs.Counters.{shown_all}
 use Rattle.txn_replay.proofs.audit.power.Goals as goal
 
 pub returns-clause-powered : goal.returns-clause-powered

@@ -1,5 +1,5 @@
 use Rattle.std.proofs.Common.{◌≡◌, ℕ, ◌+◌, Bool, false, List, [], ◌∷◌, ◌++◌, length, Some, sym, ap, ◌∙◌, subst}
-use Rattle.card_pages.specs.Pages.{found_of}
+use Rattle.card_app.specs.Pages.{found_of}
 use Rattle.card_state.specs.Decisions.{Decided}
 use Rattle.kernel.specs.Reply.{CardGone}
 use Rattle.report_text.specs.declared.line.Line.{Line}

@@ -5,7 +5,7 @@ use Rattle.card_state.specs.Allowed.{Allowed}
 use Rattle.card_state.specs.Totals.{totals}
 use Rattle.card_state.specs.declared.state.CardState.{CardState}
 use Rattle.card_app.specs.Answering.{answer_in_phase, card_reply}
-use Rattle.card_pages.specs.Replies.{CardReplyData}
+use Rattle.card_app.specs.PageReplies.{CardReplyData}
 use Rattle.card_app.specs.SeenCard.{CardSeen, CardOn, Answered, CutOff}
 use Rattle.card_app.specs.SeenReply.{reply_data, MayReply}
 use Rattle.card_app.proofs.Allowing.{card_allowed}

@@ -1,6 +1,6 @@
 -- The reply of the image, the state and the phase within is that of the decisions and the session.
 use Rattle.std.proofs.Common.{◌≡◌, ap, sym, subst, ◌∙◌}
-use Rattle.card_pages.specs.Replies.{CardReplyData}
+use Rattle.card_app.specs.PageReplies.{CardReplyData}
 use Rattle.card_state.specs.declared.state.CardState.{CardState}
 use Rattle.card_app.specs.Answering.{answer_in_phase, card_reply}
 use Rattle.card_app.specs.SeenCard.{CardSeen, CardOn}

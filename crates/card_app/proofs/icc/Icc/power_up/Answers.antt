@@ -4,7 +4,7 @@ use Rattle.card_files.specs.Files.{opening_of}
 use Rattle.emv_ports.specs.Memory.{Memory}
 use Rattle.emv_ports.specs.declared.tear.Tear.{Tear}
 use Rattle.torn_store.proofs.Outcomes.{on_ok_two}
-use Rattle.card_pages.specs.Pages.{MayStand, found_of}
+use Rattle.card_app.specs.Pages.{MayStand, found_of}
 use Rattle.card_app.specs.SeenCard.{CardSeen, CardOn}
 use Rattle.card_app.proofs.icc.Icc.power_up.Goals as goal
 

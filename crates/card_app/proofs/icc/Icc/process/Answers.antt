@@ -4,8 +4,8 @@ use Rattle.std.proofs.lemmas.Result.{on_err_weaker}
 use Rattle.card_files.specs.Files.{opening_of}
 use Rattle.card_files.specs.Views.{ImageData}
 use Rattle.torn_store.proofs.Outcomes.{on_ok_two}
-use Rattle.card_pages.specs.Cuts.{fate_by, kept_by, pending_by}
-use Rattle.card_pages.specs.Pages.{MayStand}
+use Rattle.card_app.specs.Cuts.{fate_by, kept_by, pending_by}
+use Rattle.card_app.specs.Pages.{MayStand}
 use Rattle.card_app.proofs.icc.Icc.process.Goals as goal
 
 pub returns-clause-answered : goal.returns-clause-answered

@@ -4,8 +4,8 @@ use Rattle.card_files.specs.Files.{opening_of}
 use Rattle.card_state.specs.Totals.{totals}
 use Rattle.card_state.specs.declared.state.CardState.{CardState}
 use Rattle.emv_ports.specs.declared.tear.Tear.{Tear}
-use Rattle.card_pages.specs.Pages.{MayStand, found_of}
-use Rattle.card_pages.specs.SeenKept.{KeptOn}
+use Rattle.card_app.specs.Pages.{MayStand, found_of}
+use Rattle.card_app.specs.SeenKept.{KeptOn}
 use Rattle.card_app.specs.SeenCard.{CardSeen}
 use Rattle.card_app.specs.Session.{phase_of}
 use Rattle.card_app.proofs.Allowing.{count_is}

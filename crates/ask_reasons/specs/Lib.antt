@@ -1,2 +1,0 @@
-pub mod LastQuestion
-pub mod QuestionText

@@ -1,5 +1,0 @@
-mod ComparingLemmas
-mod Formats
-mod PowerUps
-mod Stands
-pub mod Steps

@@ -1,0 +1,5 @@
+use Rattle.report_text.proofs.Lines.{reports_differ}
+use Rattle.report_text.proofs.laws.reports_differ.Goals as goal
+
+pub returns : goal.returns
+returns c = reports_differ
