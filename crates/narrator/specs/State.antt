@@ -20,9 +20,11 @@ use Rattle.report_lines.specs.Bytes.{bytes_told}
 use Rattle.report_lines.specs.Reading.{LineData, WhatData, WhoseData, Lane, Settlement, Audit, Report, Power, PowerTorn, PowerCanned, Sent, Given, Torn, ToHost, FromHost, NoReply, End, Lost}
 use Rattle.narrator.specs.Selections.{nothing_selected, selection_asked, selection_answered}
 use Rattle.narrator.specs.Terminals.{row_for}
+use Rattle.narrator.specs.declared.basis.Basis.{Basis}
 use Rattle.narrator.specs.declared.filter.Filter.{Filter}
 use Rattle.narrator.specs.declared.narrator.Narrator.{Narrator}
 use Rattle.narrator.specs.declared.past.LanePast.{LanePast}
+use Rattle.narrator.specs.declared.report_past.ReportPast.{ReportPast}
 use Rattle.narrator.specs.declared.terminal.Terminal.{Terminal}
 
 -- how lines are told: which are left and how much of them, and what is known of terminals, cards and accounts beside the
@@ -33,9 +35,13 @@ pub record Manner : Type 0 where
   pub card_apps : List CardApp
   pub accounts : List Account
 
+-- the manner in which lines are told by this
+abbrev pub manner_from : Basis → Manner
+manner_from basis = record { filter = basis.filter; terminals = basis.terminals.items; card_apps = basis.card_apps.items; accounts = basis.accounts.items }
+
 -- the manner of a teller: its filter, and what it knows of terminals, cards and accounts
 abbrev pub manner_of : Narrator → Manner
-manner_of n = record { filter = n.filter; terminals = n.terminals.items; card_apps = n.card_apps.items; accounts = n.accounts.items }
+manner_of n = manner_from n.basis
 
 -- what is kept: of 16 lanes and, behind them, of the card of the audit; the cards whose counters were seen; the limits
 -- that scripts have set; and what approved requests took from accounts, which may be more than was seen
@@ -46,9 +52,13 @@ pub record StateData : Type 0 where
   pub charges : List Charge
   pub is_unsure : Bool
 
--- what a teller has kept of the lines before: of each lane, and of the cards' counters
+-- what the lines before left: of each lane, and of the cards' counters
+abbrev pub state_in : ReportPast → StateData
+state_in past = record { lanes = past.lanes.items; cards = past.cards.items; changed = past.changed.items; charges = past.charges.items; is_unsure = past.is_unsure }
+
+-- what a teller has kept of them
 abbrev pub seen_state : Narrator → StateData
-seen_state n = record { lanes = n.lanes.items; cards = n.cards.items; changed = n.changed.items; charges = n.charges.items; is_unsure = n.is_unsure }
+seen_state n = state_in n.past
 
 -- of a lane before its first line
 abbrev pub untold : LanePast

@@ -1,58 +1,24 @@
 //! The teller of a report's lines.
-ghost use Rattle.std.specs.Prelude.{◌≡◌, ◌<◌, [], replicate, slice_get, OnOk, IfOk, option_map};
-ghost use Rattle.message_words.specs.Cards.{power_words};
+ghost use Rattle.std.specs.Prelude.{◌≡◌, OnOk, IfOk};
 ghost use Rattle.narrator.specs.State as state;
 ghost use Rattle.narrator.specs.State.{seen_state};
 ghost use Rattle.narrator.specs.Filters.{shows_all};
 ghost use Rattle.narrator.specs.Words as spec;
 ghost use Rattle.narrator.specs.Words.{Narrates, is_text_left};
-ghost use Rattle.purchase_reasons.specs.Kept.{cards_data};
-ghost use Rattle.report_lines.specs.Bytes.{bytes_told};
-ghost use Rattle.report_lines.specs.Reading.{seen_ending, seen_fields, seen_line, seen_what, seen_whose};
+ghost use Rattle.report_lines.specs.Reading.{seen_line};
 ghost use Rattle.report_lines.specs.Lines.{AreWordLines};
-ghost use Rattle.report_lines.specs.Pieces.{Tells};
 
-use crate::alone::tell_alone;
-use crate::report::tell_of_report;
-use crate::{Filter, LanePast, Terminal};
-use ending_words::tell_end;
-use exchange_words::tell_torn;
-use issuer_reasons::{Account, Charge, KnownAccounts, Reply, reply_of};
-use message_words::{CardSeen, tell_power};
-use purchase_reasons::kept::Cards;
-use purchase_reasons::{
-    CardApp, ChangedLimits, charge_reply, keep_limits, tell_cards_left, tell_reasons,
-};
-use report_lines::{EndFields, Ending, ReportLine, What, Whose, WordLines, bytes_of, read_line};
+use crate::{Basis, Filter, ReportPast, Terminal};
+use issuer_reasons::Account;
+use purchase_reasons::CardApp;
+use report_lines::{ReportLine, WordLines, read_line};
 use std::alloc::{AllocError, Global};
-
-/// The place where the audit's card is kept, behind the lanes.
-const AUDIT: u8 = 16;
 
 /// Tells the lines of a report one by one.
 #[derive(Drop)]
 pub struct Narrator {
-    alloc: Global,
-    filter: Filter,
-    terminals: Vec<Terminal>,
-    card_apps: Vec<CardApp>,
-    accounts: Vec<Account>,
-    lanes: Vec<LanePast>,
-    cards: Vec<CardSeen>,
-    changed: Vec<ChangedLimits>,
-    charges: Vec<Charge>,
-    is_unsure: bool,
-}
-
-/// The lanes before the first line, and the audit's card behind them.
-fn fresh_lanes(alloc: Global) -> Result<Vec<LanePast>, AllocError>
-    ensures { IfOk result (λ lanes. lanes.items ≡ replicate 17 state.untold) }
-{
-    let mut lanes = Vec::with_capacity(alloc, 17)?;
-    for place in 0..17u8 {
-        lanes.push(LanePast::new())?;
-    }
-    Ok(lanes)
+    basis: Basis,
+    past: ReportPast,
 }
 
 impl Narrator {
@@ -66,488 +32,35 @@ impl Narrator {
         accounts: Vec<Account>,
     ) -> Result<Narrator, AllocError>
         ensures state { IfOk result (λ n. seen_state n ≡ state.start) }
-        ensures filter { IfOk result (λ n. n.filter ≡ filter) }
-        ensures terminals { IfOk result (λ n. n.terminals.items ≡ terminals.items) }
-        ensures cards { IfOk result (λ n. n.card_apps.items ≡ card_apps.items) }
-        ensures accounts { IfOk result (λ n. n.accounts.items ≡ accounts.items) }
+        ensures filter { IfOk result (λ n. n.basis.filter ≡ filter) }
+        ensures terminals { IfOk result (λ n. n.basis.terminals.items ≡ terminals.items) }
+        ensures cards { IfOk result (λ n. n.basis.card_apps.items ≡ card_apps.items) }
+        ensures accounts { IfOk result (λ n. n.basis.accounts.items ≡ accounts.items) }
     {
-        let lanes = fresh_lanes(alloc)?;
-        Ok(Narrator {
+        let past = ReportPast::new(alloc)?;
+        let basis = Basis {
             alloc,
             filter,
             terminals,
             card_apps,
             accounts,
-            lanes,
-            cards: Vec::new(alloc),
-            changed: Vec::new(alloc),
-            charges: Vec::new(alloc),
-            is_unsure: false,
-        })
+        };
+        Ok(Narrator { basis, past })
     }
 
     /// Whether a line is left by the filter.
     fn shows(&self, line: &ReportLine<'_>) -> bool
-        ensures { result ≡ spec.is_left self.now.filter (seen_state self.now) (seen_line line.now) }
+        ensures { result ≡ spec.is_left self.now.basis.filter (seen_state self.now) (seen_line line.now) }
     {
-        self.filter.shows(line, self.last_end(&line.whose))
-    }
-
-    /// The number of the last purchase of a line's lane that ended before it; 0 where none has.
-    fn last_end(&self, whose: &Whose<'_>) -> u64
-        ensures { result ≡ spec.last_end (seen_state self.now) (seen_whose whose.now) }
-    {
-        match whose {
-            Whose::Lane(lane) => match self.lanes.get(usize::from(*lane)) {
-                Some(past) => past.last_end,
-                None => 0,
-            },
-            _ => 0,
-        }
-    }
-
-    /// Tells a command.
-    fn tell_sent(&mut self, place: u8, bytes: &[u8], out: &mut WordLines)
-        ensures words { Tells out.old out.new (spec.at_past (spec.sent_words self.old.filter.brief self.old.terminals.items place bytes.now) (slice_get self.old.lanes.items place)) }
-        ensures state { seen_state self.new ≡ state.state_changed (state.lane_asked self.old.terminals.items place bytes.now) (seen_state self.old) place }
-        ensures manner { state.manner_of self.new ≡ state.manner_of self.old }
-    {
-        let brief = self.filter.brief;
-        match self.lanes.get_mut(usize::from(place)) {
-            Some(past) => past.tell_sent(&self.terminals, place, bytes, brief, out),
-            None => {}
-        }
-    }
-
-    /// Tells an answer.
-    fn tell_given(&mut self, place: u8, bytes: &[u8], out: &mut WordLines)
-        ensures words { Tells out.old out.new (spec.at_past (spec.given_words self.old.filter.brief bytes.now) (slice_get self.old.lanes.items place)) }
-        ensures state { seen_state self.new ≡ state.state_changed (state.lane_answered bytes.now) (seen_state self.old) place }
-        ensures manner { state.manner_of self.new ≡ state.manner_of self.old }
-    {
-        let brief = self.filter.brief;
-        match self.lanes.get_mut(usize::from(place)) {
-            Some(past) => past.tell_given(bytes, brief, out),
-            None => {}
-        }
-    }
-
-    /// Tells a reply of the issuer.
-    fn tell_from_host(&mut self, place: u8, bytes: &[u8], out: &mut WordLines)
-        ensures words { Tells out.old out.new (spec.at_past (λ _. spec.from_host_words self.old.filter.brief bytes.now) (slice_get self.old.lanes.items place)) }
-        ensures state { seen_state self.new ≡ state.state_changed (state.lane_replied bytes.now) (seen_state self.old) place }
-        ensures manner { state.manner_of self.new ≡ state.manner_of self.old }
-    {
-        let brief = self.filter.brief;
-        match self.lanes.get_mut(usize::from(place)) {
-            Some(past) => past.tell_from_host(bytes, brief, out),
-            None => {}
-        }
-    }
-
-    /// Keeps that a request was sent to the issuer.
-    fn keep_request(&mut self, place: u8)
-        ensures state { seen_state self.new ≡ state.state_changed state.lane_requested (seen_state self.old) place }
-        ensures manner { state.manner_of self.new ≡ state.manner_of self.old }
-    {
-        match self.lanes.get_mut(usize::from(place)) {
-            Some(past) => past.note_request(),
-            None => {}
-        }
-    }
-
-    /// The issuer's reply, and what was known of the account before it.
-    fn reply_at(&self, place: u8, bytes: &[u8]) -> Option<Reply>
-        ensures { result ≡ state.reply_of_lane (state.manner_of self.now) (seen_state self.now) bytes.now (slice_get self.now.lanes.items place) }
-    {
-        let known = KnownAccounts {
-            accounts: self.accounts.as_slice(),
-            charges: self.charges.as_slice(),
-            is_unsure: self.is_unsure,
-        };
-        match self.lanes.get(usize::from(place)) {
-            Some(past) => reply_of(&known, past.followed.pan.as_slice(), past.talk.code, bytes),
-            None => None,
-        }
-    }
-
-    /// Keeps the issuer's reply.
-    fn keep_reply(&mut self, place: u8, reply: Option<Reply>)
-        ensures state { seen_state self.new ≡ state.state_changed (state.lane_with_reply reply) (seen_state self.old) place }
-        ensures manner { state.manner_of self.new ≡ state.manner_of self.old }
-    {
-        match self.lanes.get_mut(usize::from(place)) {
-            Some(past) => past.note_reply(reply),
-            None => {}
-        }
-    }
-
-    /// Takes what a lane's reply approved from its account.
-    fn charge_at(&mut self, place: u8) -> Result<(), AllocError>
-        ensures state { OnOk result (seen_state self.new ≡ state.with_charges (seen_state self.old) place) }
-        ensures manner { state.manner_of self.new ≡ state.manner_of self.old }
-    {
-        match self.lanes.get(usize::from(place)) {
-            Some(past) => charge_reply(&mut self.charges, &past.followed, &past.talk),
-            None => Ok(()),
-        }
-    }
-
-    /// Keeps the issuer's reply, and takes what it approved.
-    fn reply(&mut self, place: u8, bytes: &[u8]) -> Result<(), AllocError>
-        ensures state { OnOk result (seen_state self.new ≡ state.state_replied (state.manner_of self.old) bytes.now (seen_state self.old) place) }
-        ensures manner { state.manner_of self.new ≡ state.manner_of self.old }
-    {
-        let reply = self.reply_at(place, bytes);
-        self.keep_reply(place, reply);
-        self.charge_at(place)
-    }
-
-    /// Tells a message to the issuer.
-    fn tell_to_host(&self, place: u8, bytes: &[u8], out: &mut WordLines)
-        ensures { Tells out.old out.new (spec.at_past (spec.to_host_words self.now.filter.brief bytes.now) (slice_get self.now.lanes.items place)) }
-    {
-        if let Some(past) = self.lanes.get(usize::from(place)) {
-            past.tell_to_host(bytes, self.filter.brief, out);
-        }
-    }
-
-    /// Tells a command, an answer, or a message of a lane or of the audit.
-    fn tell_bytes(
-        &mut self,
-        place: u8,
-        what: &What<'_>,
-        bytes: &[u8],
-        out: &mut WordLines,
-    ) -> Result<(), AllocError>
-        ensures words { OnOk result (Tells out.old out.new (spec.bytes_words (state.manner_of self.old) (seen_state self.old) place (seen_what what.now) bytes.now)) }
-        ensures state { OnOk result (seen_state self.new ≡ state.left_of_bytes (state.manner_of self.old) (seen_what what.now) bytes.now (seen_state self.old) place) }
-        ensures manner { state.manner_of self.new ≡ state.manner_of self.old }
-    {
-        match what {
-            What::Sent(_) => self.tell_sent(place, bytes, out),
-            What::Given(_) => self.tell_given(place, bytes, out),
-            What::ToHost(_) => {
-                self.tell_to_host(place, bytes, out);
-                self.keep_request(place);
-            }
-            What::FromHost(_) => {
-                self.tell_from_host(place, bytes, out);
-                return self.reply(place, bytes);
-            }
-            _ => {}
-        }
-        Ok(())
-    }
-
-    /// Tells a command, an answer or a message of a lane or of the audit, which stands in hexadecimal.
-    fn tell_exchange(
-        &mut self,
-        place: u8,
-        what: &What<'_>,
-        text: &[u8],
-        out: &mut WordLines,
-    ) -> Result<(), AllocError>
-        ensures words { OnOk result (Tells out.old out.new (spec.talk_words (state.manner_of self.old) (seen_state self.old) place (seen_what what.now) (bytes_told text.now))) }
-        ensures state { OnOk result (seen_state self.new ≡ state.left_of_exchange (state.manner_of self.old) (seen_what what.now) (bytes_told text.now) (seen_state self.old) place) }
-        ensures manner { state.manner_of self.new ≡ state.manner_of self.old }
-    {
-        match bytes_of(self.alloc, text)? {
-            Some(bytes) => self.tell_bytes(place, what, bytes.as_slice(), out),
-            None => Ok(()),
-        }
-    }
-
-    /// Tells that the power was cut, from what the lane's lines before it left.
-    fn tell_torn_at(&self, place: u8, out: &mut WordLines)
-        ensures { Tells out.old out.new (spec.torn_at (slice_get self.now.lanes.items place)) }
-    {
-        if let Some(past) = self.lanes.get(usize::from(place)) {
-            tell_torn(out, past.talk.command.as_slice());
-        }
-    }
-
-    /// Tells that a purchase ended, from what the lane's lines before it left.
-    fn tell_end_at(
-        &self,
-        place: u8,
-        ending: &Ending<'_>,
-        fields: &EndFields<'_>,
-        out: &mut WordLines,
-    )
-        ensures { Tells out.old out.new (spec.lane_end_words (slice_get self.now.lanes.items place) (seen_ending ending.now) (seen_fields fields.now) self.now.filter.brief) }
-    {
-        if let Some(past) = self.lanes.get(usize::from(place)) {
-            tell_end(out, &past.talk, ending, fields, self.filter.brief);
-        }
-    }
-
-    /// What is known of the cards: beside the report, and by its lines.
-    fn cards_known(&self) -> Cards<'_>
-        ensures { cards_data result ≡ spec.cards_known (state.manner_of self.now) (seen_state self.now) }
-    {
-        Cards {
-            apps: self.card_apps.as_slice(),
-            changed: self.changed.as_slice(),
-            seen: self.cards.as_slice(),
-        }
-    }
-
-    /// What the lines of a lane left.
-    fn past_at(&self, place: u8) -> Option<&LanePast>
-        ensures { option_map (λ past. past.now) result ≡ slice_get self.now.lanes.items place }
-    {
-        self.lanes.get(usize::from(place))
-    }
-
-    /// Tells why a lane's purchase came out as it did.
-    fn tell_reasons_at(&self, place: u8, out: &mut WordLines)
-        ensures { Tells out.old out.new (spec.reasons_at (state.manner_of self.now) (seen_state self.now) (slice_get self.now.lanes.items place)) }
-    {
-        if let Some(past) = self.past_at(place) {
-            tell_reasons(out, &past.followed, &past.talk, &self.cards_known());
-        }
-    }
-
-    /// Tells why a purchase came out as it did, where that is asked for.
-    fn tell_why_at(&self, place: u8, out: &mut WordLines)
-        ensures { Tells out.old out.new (spec.why_at (state.manner_of self.now) (seen_state self.now) (slice_get self.now.lanes.items place)) }
-    {
-        if self.filter.why {
-            self.tell_reasons_at(place, out);
-        }
-    }
-
-    /// Keeps the limits that the scripts of a lane's purchase have set.
-    fn keep_limits_of(&mut self, place: u8) -> Result<(), AllocError>
-        ensures state { OnOk result (seen_state self.new ≡ state.with_limits_kept (seen_state self.old) place) }
-        ensures manner { state.manner_of self.new ≡ state.manner_of self.old }
-    {
-        match self.lanes.get(usize::from(place)) {
-            Some(past) => keep_limits(&mut self.changed, &past.followed, &past.talk),
-            None => Ok(()),
-        }
-    }
-
-    /// Keeps what the last command leaves that the card was pulled out in.
-    fn keep_torn(&mut self, place: u8)
-        ensures state { seen_state self.new ≡ state.state_changed state.lane_torn (seen_state self.old) place }
-        ensures manner { state.manner_of self.new ≡ state.manner_of self.old }
-    {
-        match self.lanes.get_mut(usize::from(place)) {
-            Some(past) => past.note_torn(),
-            None => {}
-        }
-    }
-
-    /// Keeps the number of the purchase that ended.
-    fn keep_end(&mut self, place: u8, number: u64)
-        ensures state { seen_state self.new ≡ state.state_changed (state.lane_ended_purchase number) (seen_state self.old) place }
-        ensures manner { state.manner_of self.new ≡ state.manner_of self.old }
-    {
-        match self.lanes.get_mut(usize::from(place)) {
-            Some(past) => past.last_end = number,
-            None => {}
-        }
-    }
-
-    /// Keeps the number of the purchase that ended, and the limits that its scripts have set.
-    fn keep_ended(&mut self, place: u8, number: u64) -> Result<(), AllocError>
-        ensures state { OnOk result (seen_state self.new ≡ state.state_ended number (seen_state self.old) place) }
-        ensures manner { state.manner_of self.new ≡ state.manner_of self.old }
-    {
-        self.keep_end(place, number);
-        self.keep_limits_of(place)
-    }
-
-    /// Forgets what the lane's last card gave.
-    fn begin(&mut self, place: u8, card: &[u8])
-        ensures state { seen_state self.new ≡ state.state_changed (state.lane_begun card.now) (seen_state self.old) place }
-        ensures manner { state.manner_of self.new ≡ state.manner_of self.old }
-    {
-        match self.lanes.get_mut(usize::from(place)) {
-            Some(past) => past.begin(card),
-            None => {}
-        }
-    }
-
-    /// Keeps what a line that tells enough by itself leaves: a card that is powered up leaves nothing of the
-    /// last one, and a lost purchase its number and its limits.
-    fn keep(&mut self, place: u8, what: &What<'_>) -> Result<(), AllocError>
-        ensures state { OnOk result (seen_state self.new ≡ state.kept_alone (seen_what what.now) (seen_state self.old) place) }
-        ensures manner { state.manner_of self.new ≡ state.manner_of self.old }
-    {
-        match what {
-            What::PowerTorn(card) | What::PowerCanned(card) => self.begin(place, card),
-            What::Lost(number) => return self.keep_ended(place, *number),
-            What::NoReply => self.is_unsure = true,
-            _ => {}
-        }
-        Ok(())
-    }
-
-    /// Tells the counters of a card that is powered up, and keeps them.
-    fn power(
-        &mut self,
-        place: u8,
-        card: &[u8],
-        apps: &[u8],
-        out: &mut WordLines,
-    ) -> Result<(), AllocError>
-        ensures words { OnOk result (Tells out.old out.new (power_words self.old.cards.items card.now apps.now)) }
-        ensures state { OnOk result (seen_state self.new ≡ state.state_powered card.now apps.now (seen_state self.old) place) }
-        ensures manner { state.manner_of self.new ≡ state.manner_of self.old }
-    {
-        self.begin(place, card);
-        tell_power(out, &mut self.cards, card, apps)
-    }
-
-    /// Tells a line of a lane or of the audit.
-    fn tell_at(&mut self, place: u8, what: &What<'_>, out: &mut WordLines) -> Result<(), AllocError>
-        ensures words { OnOk result (Tells out.old out.new (spec.at_lane (state.manner_of self.old) (seen_state self.old) place (seen_what what.now))) }
-        ensures state { OnOk result (seen_state self.new ≡ state.lane_left_by (state.manner_of self.old) (seen_what what.now) (seen_state self.old) place) }
-        ensures manner { state.manner_of self.new ≡ state.manner_of self.old }
-    {
-        match what {
-            What::Power { card, apps } => self.power(place, card, apps, out),
-            What::Sent(text) => self.tell_exchange(place, what, text, out),
-            What::Given(text) => self.tell_exchange(place, what, text, out),
-            What::ToHost(text) => self.tell_exchange(place, what, text, out),
-            What::FromHost(text) => self.tell_exchange(place, what, text, out),
-            What::Torn => {
-                self.tell_torn_at(place, out);
-                self.keep_torn(place);
-                Ok(())
-            }
-            What::End {
-                number,
-                ending,
-                fields,
-            } => {
-                self.tell_end_at(place, ending, fields, out);
-                self.tell_why_at(place, out);
-                self.keep_ended(place, *number)
-            }
-            other => {
-                tell_alone(out, other);
-                self.keep(place, other)
-            }
-        }
-    }
-
-    /// Tells a message of the settlement.
-    fn settle(&mut self, place: u8, bytes: &[u8], out: &mut WordLines)
-        ensures words { Tells out.old out.new (spec.at_past (spec.to_host_words self.old.filter.brief bytes.now) (slice_get self.old.lanes.items place)) }
-        ensures state { seen_state self.new ≡ state.state_changed (state.settling bytes.now) (seen_state self.old) place }
-        ensures manner { state.manner_of self.new ≡ state.manner_of self.old }
-    {
-        let brief = self.filter.brief;
-        match self.lanes.get_mut(usize::from(place)) {
-            Some(past) => past.tell_settling(bytes, brief, out),
-            None => {}
-        }
-    }
-
-    /// Tells a reply in the settlement.
-    fn tell_settled(&self, place: u8, bytes: &[u8], out: &mut WordLines)
-        ensures { Tells out.old out.new (spec.at_past (spec.settled_words self.now.filter.brief bytes.now) (slice_get self.now.lanes.items place)) }
-    {
-        if let Some(past) = self.lanes.get(usize::from(place)) {
-            past.tell_settled(bytes, self.filter.brief, out);
-        }
-    }
-
-    /// Tells a message of the settlement, which stands in hexadecimal.
-    fn settle_text(&mut self, place: u8, text: &[u8], out: &mut WordLines) -> Result<(), AllocError>
-        ensures words { OnOk result (Tells out.old out.new (spec.settling_words self.old.filter.brief (slice_get self.old.lanes.items place) (bytes_told text.now))) }
-        ensures state { OnOk result (seen_state self.new ≡ state.left_by_settling (bytes_told text.now) (seen_state self.old) place) }
-        ensures manner { state.manner_of self.new ≡ state.manner_of self.old }
-    {
-        match bytes_of(self.alloc, text)? {
-            Some(bytes) => {
-                self.settle(place, bytes.as_slice(), out);
-                self.is_unsure = true;
-            }
-            None => {}
-        }
-        Ok(())
-    }
-
-    /// Tells a reply in the settlement, which stands in hexadecimal.
-    fn tell_settled_text(
-        &self,
-        place: u8,
-        text: &[u8],
-        out: &mut WordLines,
-    ) -> Result<(), AllocError>
-        ensures { OnOk result (Tells out.old out.new (spec.reply_told self.now.filter.brief (slice_get self.now.lanes.items place) (bytes_told text.now))) }
-    {
-        match bytes_of(self.alloc, text)? {
-            Some(bytes) => self.tell_settled(place, bytes.as_slice(), out),
-            None => {}
-        }
-        Ok(())
-    }
-
-    /// Tells a line of the settlement.
-    fn tell_settlement(
-        &mut self,
-        place: u8,
-        what: &What<'_>,
-        out: &mut WordLines,
-    ) -> Result<(), AllocError>
-        ensures words { OnOk result (Tells out.old out.new (spec.of_settlement self.old.filter.brief (seen_state self.old) place (seen_what what.now))) }
-        ensures state { OnOk result (seen_state self.new ≡ state.left_by_settlement (seen_what what.now) (seen_state self.old) place) }
-        ensures manner { state.manner_of self.new ≡ state.manner_of self.old }
-    {
-        match what {
-            What::Sent(text) => self.settle_text(place, text, out),
-            What::Given(text) => self.tell_settled_text(place, text, out),
-            _ => Ok(()),
-        }
-    }
-
-    /// Tells what is left of the cards' limits, where that is asked for.
-    fn tell_left(&self, out: &mut WordLines)
-        ensures { Tells out.old out.new (spec.limits_at_end (state.manner_of self.now) (seen_state self.now)) }
-    {
-        if self.filter.why {
-            tell_cards_left(out, &self.cards_known());
-        }
-    }
-
-    /// Tells a line of no lane and no card: behind the last one what is left of the cards' limits.
-    fn tell_report(&self, what: &What<'_>, out: &mut WordLines) -> Result<(), AllocError>
-        ensures { OnOk result (Tells out.old out.new (spec.of_report (state.manner_of self.now) (seen_state self.now) (seen_what what.now))) }
-    {
-        match what {
-            What::Done => {
-                self.tell_left(out);
-                Ok(())
-            }
-            other => tell_of_report(out, self.alloc, other, self.filter.brief),
-        }
-    }
-
-    /// Tells a line, and keeps what it leaves for the lines behind it.
-    fn tell_line(&mut self, line: &ReportLine<'_>, out: &mut WordLines) -> Result<(), AllocError>
-        ensures words { OnOk result (Tells out.old out.new (spec.line_said (state.manner_of self.old) (seen_state self.old) (seen_line line.now))) }
-        ensures state { OnOk result (seen_state self.new ≡ state.state_left_by (state.manner_of self.old) (seen_line line.now) (seen_state self.old)) }
-        ensures manner { state.manner_of self.new ≡ state.manner_of self.old }
-    {
-        match line.whose {
-            Whose::Lane(lane) => self.tell_at(lane, &line.what, out),
-            Whose::Settlement(lane) => self.tell_settlement(lane, &line.what, out),
-            Whose::Audit(_) => self.tell_at(AUDIT, &line.what, out),
-            Whose::Report => self.tell_report(&line.what, out),
-        }
+        let last_end = self.past.last_end(&line.whose);
+        self.basis.filter.shows(line, last_end)
     }
 
     /// Whether every line is left by the filter.
     pub fn shows_all(&self) -> bool
-        ensures { result ≡ shows_all self.now.filter }
+        ensures { result ≡ shows_all self.now.basis.filter }
     {
-        self.filter.shows_all()
+        self.basis.filter.shows_all()
     }
 
     /// Puts the words of a line, which stands without its newline, in place of what `out` held, and keeps
@@ -556,21 +69,21 @@ impl Narrator {
     #[tactic(auto, unfolding(crate::specs::Words::Narrates, crate::specs::Words::is_text_left))]
     pub fn tell(&mut self, text: &[u8], out: &mut WordLines) -> Result<bool, AllocError>
         ensures lines { OnOk result (AreWordLines out.new.made.bytes) }
-        ensures shown { IfOk result (λ shown. shown ≡ is_text_left self.old.filter (seen_state self.old) text.now) }
+        ensures shown { IfOk result (λ shown. shown ≡ is_text_left self.old.basis.filter (seen_state self.old) text.now) }
         ensures told { OnOk result (Narrates (state.manner_of self.old) text.now (seen_state self.old) out.new.made.bytes (seen_state self.new)) }
         ensures manner { state.manner_of self.new ≡ state.manner_of self.old }
     {
-        out.clear(self.filter.books);
+        out.clear(self.basis.filter.books);
         match read_line(text) {
             Some(line) => {
                 let shown = self.shows(&line);
-                self.tell_line(&line, out)?;
+                self.past.tell_line(&self.basis, &line, out)?;
                 out.finish()?;
                 Ok(shown)
             }
             None => {
                 out.finish()?;
-                Ok(self.filter.shows_all())
+                Ok(self.basis.filter.shows_all())
             }
         }
     }

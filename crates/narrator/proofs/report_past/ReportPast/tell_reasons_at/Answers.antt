@@ -3,7 +3,7 @@ use Rattle.report_lines.specs.Pieces.{Tells}
 use Rattle.report_lines.proofs.Telling.{tells_nothing}
 use Rattle.purchase_reasons.specs.Kept.{CardsData}
 use Rattle.purchase_reasons.specs.Reasons.{reasons_words}
-use Rattle.narrator.proofs.narrator.Narrator.tell_reasons_at.Goals as goal
+use Rattle.narrator.proofs.report_past.ReportPast.tell_reasons_at.Goals as goal
 
 pub returns-in-Some : goal.returns-in-Some
 returns-in-Some c =
