@@ -2,8 +2,8 @@
 ghost use Rattle.std.specs.Prelude.{◌≡◌, []};
 ghost use Rattle.card_app.specs.declared.reply.Reply.TheVariants.{Plain};
 
-use card_cryptogram::{Body, Phase};
 use crate::Comparison;
+use card_cryptogram::{Body, Phase};
 use card_state::Decision;
 
 /// What a card is to decide and to answer; the body of the answer stands elsewhere. `phase` is the

@@ -9,6 +9,7 @@ ghost use Rattle.card_cryptogram.specs.declared.phase.Phase.TheVariants.{Started
 use crate::apps::{app_at, state_at};
 use crate::reply::{Reply, refused};
 use crate::work::CardAtWork;
+use crate::{Comparison, has_pin};
 use apdu_core::Command;
 use apdu_core::status::{
     AUTHENTICATION_BLOCKED, CONDITIONS_NOT_SATISFIED, DATA_NOT_FOUND, WRONG_LENGTH,
@@ -16,7 +17,6 @@ use apdu_core::status::{
 };
 use card_cryptogram::{Phase, block_of};
 use card_files::AppImage;
-use crate::{Comparison, has_pin};
 use card_state::AppState;
 
 /// P2 of a plain PIN block.

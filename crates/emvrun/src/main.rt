@@ -1,9 +1,8 @@
 //! `emvrun`: terminals, cards and an issuer's host from one document, exchange by exchange.
 #![tactic(auto)]
 
-use emv_ports::{StdinSource, StdoutSink};
+use emv_ports::{StdinSource, StdoutSink, blank_bank};
 use emv_top::run;
-use emv_ports::blank_bank;
 use std::process::ExitCode;
 use std::{env, io};
 

@@ -9,11 +9,12 @@ ghost use Rattle.report_lines.specs.Pieces.{Tells};
 use crate::digits::hex_number;
 use crate::phrases::{ALL_CARRIED_OUT, ASKED_FOR, CARD_ANSWERED, ENDED_AT, NO_SCRIPT, PULLED_OUT};
 use ber_tlv::Tag;
-use report_lines::{CUT, STATUS_REFERENCES, cause_reference};
 use emv_dict::Kind;
 use exchange_words::{LaneState, kind_name, tell_cited_reason};
 use object_words::{tell_bit_word, tell_response_words, tell_results};
-use report_lines::{EndFields, Ending, WordLines, word_of, word_of_text};
+use report_lines::{
+    CUT, EndFields, Ending, STATUS_REFERENCES, WordLines, cause_reference, word_of, word_of_text,
+};
 use value_words::{
     CAUSES, CRYPTOGRAMS, Form, Reason, STATUS_BITS, STEPS, name_of, tell_performed_rule,
     tell_status,

@@ -3,8 +3,7 @@ ghost use Rattle.std.specs.Prelude.{◌≡◌};
 ghost use Rattle.exchange_words.specs.Because as spec;
 ghost use Rattle.report_lines.specs.Pieces.{Tells};
 
-use report_lines::{ANALYSIS, DENIAL, ONLINE, REPLY, UNABLE};
-use report_lines::WordLines;
+use report_lines::{ANALYSIS, DENIAL, ONLINE, REPLY, UNABLE, WordLines};
 use value_words::{Reason, tell_reason};
 
 /// The reference of the reason for a kind of cryptogram; `second` says that it was the second question.

@@ -13,10 +13,9 @@ use crate::lane::{LaneState, keep};
 use crate::phrases::OTHER_COMMANDS;
 use apdu_core::{Command, read_command};
 use ber_tlv::{Tag, sole_value, tag_bytes};
-use report_lines::command_reference;
 use emv_dict::is_pin_length;
 use object_words::{Style, tell_fields, tell_script_command, tell_value};
-use report_lines::{WordLines, word_of};
+use report_lines::{WordLines, command_reference, word_of};
 use value_words::{Fields, Form, Row, digits_in, name_of, tell_digits};
 
 /// Tells where a command stands, by its class and instruction.

@@ -7,9 +7,8 @@ use crate::account::{Account, AccountNow, Charge, account_now, charge_account};
 use crate::wanted::{Wanted, tell_currency};
 use ber_tlv::{Tag, first_value, sole_value};
 use report_lines::{
-    ABOVE_BALANCE, EXPIRED, HELD, NO_ACCOUNT, NOT_ALLOWED, WRONG_CRYPTOGRAM, WRONG_PIN,
+    ABOVE_BALANCE, EXPIRED, HELD, NO_ACCOUNT, NOT_ALLOWED, WRONG_CRYPTOGRAM, WRONG_PIN, WordLines,
 };
-use report_lines::WordLines;
 use std::alloc::AllocError;
 
 /// A reply to a request, and what was known as it came.

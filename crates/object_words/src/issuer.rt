@@ -10,8 +10,7 @@ use crate::phrases::{
     RESPONSE_CRYPTOGRAM, STATUS_UPDATE,
 };
 use crate::style::Style;
-use report_lines::{SETTLED, response_reference};
-use report_lines::{WordLines, word_of};
+use report_lines::{SETTLED, WordLines, response_reference, word_of};
 use value_words::{CRYPTOGRAMS, RESPONSES, UPDATE_BITS};
 
 /// The response code 00.

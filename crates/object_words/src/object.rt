@@ -15,8 +15,7 @@ use crate::results::tell_result_lines;
 use crate::style::{ResultsStyle, Style};
 use crate::track::tell_track;
 use ber_tlv::{Cursor, Item, Tag, first_fault, is_constructed, tag_bytes};
-use report_lines::STATUS_REFERENCES;
-use report_lines::WordLines;
+use report_lines::{STATUS_REFERENCES, WordLines};
 use value_words::{
     ADDITIONAL_BITS, CAPABILITY_BITS, Form, INTERCHANGE_BITS, STATUS_BITS, TERMINAL_TYPES, TRADES,
     USAGE_BITS, name_of, number_in, tell_amount, tell_code, tell_date, tell_digits, tell_hex,

@@ -7,8 +7,7 @@ ghost use Rattle.report_lines.specs.Pieces.{Tells};
 
 use crate::phrases::IN_NO_CARD_CODE;
 use crate::style::KnownCodes;
-use report_lines::result_reference;
-use report_lines::{WordLines, word_of};
+use report_lines::{WordLines, result_reference, word_of};
 use value_words::{RESULT_BITS, Row, has_bit};
 
 /// Tells one code that has the bit, where it has it; whether any code was told.

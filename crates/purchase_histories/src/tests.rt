@@ -7,10 +7,9 @@ mod terminals;
 
 use document::{CARD, ISSUER, LANE, PURCHASE};
 use early_tears::EARLY_TEARS;
-use emv_ports::{MemorySink, MemorySource};
+use emv_ports::{MemorySink, MemorySource, blank_bank};
 use emv_top::run;
 use late_tears::LATE_TEARS;
-use emv_ports::blank_bank;
 use payments::PAYMENTS;
 use std::alloc::Global;
 use std::process::Abort;

@@ -5,10 +5,9 @@ ghost use Rattle.report_lines.specs.Pieces.{Tells};
 
 use crate::approval::{Facts, tell_approval};
 use crate::followed::Standing;
-use report_lines::{FIRST_KIND, SECOND_KIND};
 use emv_dict::Kind;
 use exchange_words::kind_name;
-use report_lines::WordLines;
+use report_lines::{FIRST_KIND, SECOND_KIND, WordLines};
 
 /// Why a card answered the kind that it answered.
 #[derive(Clone, Copy, PartialEq, Eq, Debug)]

@@ -12,10 +12,9 @@ ghost use Rattle.std.specs.Prelude.{◌≡◌, ◌<◌, true, length, map};
 ghost use Rattle.std.specs.List.{All};
 ghost use Rattle.emv_ports.specs.Memory.{IsBlank};
 
-use emv_ports::{Held, MemoryPages, Pages, StdinSource, StdoutSink};
+use emv_ports::{Held, MemoryPages, Pages, StdinSource, StdoutSink, blank_bank, rough_bank};
 use emv_top::{Finished, run};
 use kernel::Tally;
-use emv_ports::{blank_bank, rough_bank};
 use std::alloc::{AllocError, Global};
 use std::process::ExitCode;
 use std::{env, io};

@@ -1,9 +1,8 @@
 //! Runs over words, documents, and sources and sinks that fail.
 use crate::rows::{BASE, BASE_READ, BASE_REPORT};
-use emv_ports::{Held, MemoryPages, MemorySink, MemorySource};
+use emv_ports::{Held, MemoryPages, MemorySink, MemorySource, blank_bank};
 use emv_top::{Finished, run};
 use kernel::Tally;
-use emv_ports::blank_bank;
 use std::alloc::Global;
 use std::process::Abort;
 use std::test::Fail;

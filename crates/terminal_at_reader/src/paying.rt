@@ -11,12 +11,11 @@ use crate::hearing::hear;
 use crate::losing::break_off;
 use crate::saying::{put_fault, put_other, put_why};
 use crate::work::{Phase, Work};
-use trace_check::last_question;
 use kernel::{Next, Tally};
 use line_talk::{LineText, Onward};
 use std::alloc::{AllocError, Global};
 use trace_check::entry::entry_of;
-use trace_check::take_with_log;
+use trace_check::{last_question, take_with_log};
 
 /// Adds how the purchase has ended: where it was approved it joins the log, what it captured waits for settlement, its last
 /// question is kept, and the terminal rests.

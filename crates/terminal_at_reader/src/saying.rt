@@ -6,9 +6,9 @@ ghost use Rattle.line_talk.specs.declared.party.Onward.TheVariants as way;
 ghost use Rattle.terminal_at_reader.specs.Hearing.{fault_line};
 
 use crate::fault::{ReplyFault, tell_fault};
-use trace_check::{Question, tell_question};
 use line_talk::{LineText, Onward, put_line};
 use std::alloc::AllocError;
+use trace_check::{Question, tell_question};
 
 /// Puts the line that tells why a reply can't be read in place of what was there, and nothing of one that can.
 pub fn put_fault(fault: Option<ReplyFault>, text: &mut Vec<u8>) -> Result<(), AllocError>

@@ -8,12 +8,12 @@ ghost use Rattle.kernel.specs.EndShown.{EndShown};
 ghost use Rattle.terminal_at_reader.specs.Talk.{HasAmounts};
 ghost use Rattle.terminal_at_reader.specs.Till.{approval_logged, new_till, till_begun, till_broken_off, till_ended, till_lost, till_lost_captured, till_settled};
 
-use trace_check::Question;
 use auth_message::Message;
 use emv_dict::{Digits, Ending, Logged};
 use kernel::Capture;
 use std::alloc::{AllocError, Global};
 use std::marker::Model;
+use trace_check::Question;
 
 /// A message that waits for settlement. Contracts see its bytes, which the host reads.
 #[derive(Drop)]

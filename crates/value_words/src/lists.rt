@@ -12,8 +12,7 @@ use crate::fields::next_entry;
 use crate::phrases::{FAIL, GO_ON, NO_RULE, UNKNOWN_CONDITION, UNKNOWN_METHOD};
 use crate::plain::number_in;
 use ber_tlv::{Tag, tag_bytes};
-use report_lines::{outcome_reference, verification_reference};
-use report_lines::{WordLines, word_of};
+use report_lines::{WordLines, outcome_reference, verification_reference, word_of};
 
 /// In place of a method: no rule was performed.
 const NO_METHOD: u8 = 0x3f;

@@ -6,8 +6,7 @@ ghost use Rattle.report_lines.specs.Pieces.{Tells};
 use crate::codes::{ANSWERS, STATUSES};
 use crate::phrases::WRONG_PIN;
 use apdu_core::status::counter_in as tries_in;
-use report_lines::{TRIES_LEFT, status_reference};
-use report_lines::{WordLines, word_of};
+use report_lines::{TRIES_LEFT, WordLines, status_reference, word_of};
 
 /// The tries that a status of VERIFY leaves; `None` where it is another command's, or tells none.
 fn tries_left(instruction: u8, status: u16) -> Option<u8>
