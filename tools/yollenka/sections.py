@@ -1,5 +1,5 @@
 """Where each reason of a report stands: a rule of docs/proof/profile.md, whose section docs/proof/rules.toml has, or a section of a
-standard of which the profile has no rule. Written apart from crates/book_sections, beside which `checks/words` puts it: here a
+standard of which the profile has no rule. Written apart from crates/report_lines, beside which `checks/words` puts it: here a
 rule or a section has what it is the reference of.
 """
 import re
@@ -8,7 +8,7 @@ from yollenka import words
 from yollenka.lab.rules import table
 from yollenka.programs import ROOT
 
-TABLES = ROOT / "crates" / "book_sections" / "src" / "references.rt"
+TABLES = ROOT / "crates" / "report_lines" / "src" / "references.rt"
 # A table of the crate, one of its rows, and a text that stands alone.
 TABLE = re.compile(r"pub const (\w+): \[\(\S+, &\[u8\]\); \d+\] = \[(.*?)\];", re.DOTALL)
 ROW = re.compile(r'\(\s*(?:0x([0-9a-f]+)|(\d+)|b"([^"]*)"),\s*b"([^"]*)",?\s*\)')
@@ -110,7 +110,7 @@ def of_step(step):
 
 
 def tables():
-    """The tables of crates/book_sections by their names."""
+    """The tables of crates/report_lines by their names."""
     return {
         "RESULT_REFERENCES": bits(OF_RESULTS), "STATUS_REFERENCES": bits(OF_STATUS), "METHOD_REFERENCES": numbers(OF_METHODS),
         "OUTCOME_REFERENCES": numbers(OF_OUTCOMES), "COMMAND_REFERENCES": numbers(OF_COMMANDS), "STATUS_WORD_REFERENCES": numbers(OF_STATUS_WORDS),
@@ -121,7 +121,7 @@ def tables():
 
 
 def phrases():
-    """The references of crates/book_sections that stand alone, by their names."""
+    """The references of crates/report_lines that stand alone, by their names."""
     reasons, no_rule = by_key(OF_REASONS), by_key(OF_NO_RULE)
     return {
         "LOCATOR_LENGTH": by_key(OF_CAUSES)["initiate afl 0"], "NOT_VERIFIED": no_rule["00"], "NO_RULE": no_rule["01"],
