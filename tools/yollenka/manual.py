@@ -47,8 +47,8 @@ SECTIONS = [
         "that takes it more than five seconds.",
         "Behind a trial build a quick one is made beside all else, of the same code by an optimising compiler. It is not proved "
         "either, and takes a few times as long as the proved program.",
-        "`--build` proves as many crates at a time as processors and memory allow, which from nothing are one to two and a "
-        "half hours of one processor. What is proved is kept, also where it is ended.",
+        "`--build` proves as many crates at a time as processors and memory allow, which from nothing takes twenty minutes "
+        "on four quick processors, and twice that on slow ones. What is proved is kept, also where it is ended.",
     ]),
     ("EXIT STATUS", [
         ("0", "The scenario was run to its end, whatever became of its purchases; or the trace was compared."),
