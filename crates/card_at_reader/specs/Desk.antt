@@ -1,11 +1,10 @@
 -- A card in a reader: what it answers to each line (ISO/IEC 7816-4; EMV 4.3 Book 3 section 6.5).
-use Rattle.std.specs.Prelude.{◌≡◌, ℕ, ◌+◌, Bool, if◌then◌else◌, List, [], ◌∷◌, ◌++◌, length, codes, Option, Some, None, IsTrue}
+use Rattle.std.specs.Prelude.{◌≡◌, ℕ, Bool, if◌then◌else◌, List, [], ◌∷◌, ◌++◌, length, codes, Option, Some, None, IsTrue}
 use Rattle.card_app.specs.Answering.{card_answer}
 use Rattle.card_app.specs.Reasons.{why_of}
 use Rattle.card_app.specs.SeenCard.{CardSeen}
 use Rattle.card_app.specs.SeenIcc.{IccOn, IccOff}
 use Rattle.card_app.specs.Session.{Exchange}
-use Rattle.card_app.specs.declared.reason.Reason.{Reason}
 use Rattle.card_files.specs.Files.{opening_of}
 use Rattle.card_files.specs.Views.{ImageData}
 use Rattle.card_app.specs.Cuts.{Cut, cut_of, fate_by, kept_by, pending_by}
@@ -23,10 +22,10 @@ use Rattle.card_words.specs.DecisionText.{decided_text}
 use Rattle.card_words.specs.ReasonText.{why_text}
 use Rattle.card_words.specs.StateText.{state_text}
 use Rattle.card_words.specs.declared.decision.Told.{Told}
+use Rattle.card_at_reader.specs.Notes.{NotesData, no_notes, plan_of, powered_notes, torn_notes, answered_notes}
 use Rattle.card_at_reader.specs.SincePower.{Since, cut_since, nothing_since, told_since}
 use Rattle.card_at_reader.specs.TornText.{torn_answer}
 use Rattle.card_at_reader.specs.Words.{line_word}
-use Rattle.card_at_reader.specs.declared.notes.Notes.{Notes}
 use Rattle.card_at_reader.specs.declared.word.Order.{Order}
 use Rattle.card_at_reader.specs.declared.word.Order.TheVariants.{Power, Off, Command, Pull}
 use Rattle.card_at_reader.specs.declared.word.Question.{Question}
@@ -48,14 +47,10 @@ since_of (IsOff kept pending since) = since
 -- with what is noted beside it
 pub record At : Type 0 where
   pub side : Side
-  pub notes : Notes
+  pub notes : NotesData
 
-abbrev pub at_of : Side → Notes → At
+abbrev pub at_of : Side → NotesData → At
 at_of side notes = record { side = side; notes = notes }
-
--- nothing is planned, nothing has fired, and no cryptogram was made
-abbrev pub no_notes : Notes
-no_notes = record { plan = None; next = None; torn = None; why = None }
 
 -- a card that has decided nothing yet
 abbrev pub desk_at_first : At
@@ -85,38 +80,14 @@ other_text = codes "?" ++ 10 ∷ []
 abbrev pub answer_text : List ℕ → List ℕ
 answer_text answer = codes "< " ++ (hex_or_dash answer ++ 10 ∷ [])
 
--- the plan of the next power-up
-abbrev pub later_plan : Option Tear → Option Tear → Option Tear
-later_plan plan None = plan
-later_plan plan (Some tear) = Some tear
-
-abbrev pub plan_of : Notes → Option Tear
-plan_of notes = later_plan notes.plan notes.next
-
--- behind a power-up with its plan
-abbrev pub powered_notes : Notes → Notes
-powered_notes notes = record notes { plan = plan_of notes; next = None; why = None }
-
--- the plan has fired
-abbrev pub torn_notes : Notes → Notes
-torn_notes notes = record notes { plan = None; torn = notes.plan }
-
--- behind a command: the last cryptogram is that of this command, where it makes one
-abbrev pub later_reason : Option Reason → Option Reason → Option Reason
-later_reason before None = before
-later_reason before (Some reason) = Some reason
-
-abbrev pub answered_notes : Notes → Option Reason → Notes
-answered_notes notes reason = record notes { why = later_reason notes.why reason }
-
 -- a power-up from off: `with_it` tells whether a decision that was cut is found
-abbrev pub desk_powered : ImageData → Bool → Notes → List Decided → Option Decided → DeskTurn
+abbrev pub desk_powered : ImageData → Bool → NotesData → List Decided → Option Decided → DeskTurn
 desk_powered image with_it notes kept pending =
     if names_commit (plan_of notes) 0 then record { answer = torn_power; after = at_of (IsOff kept pending nothing_since) (torn_notes (powered_notes notes)) }
     else record { answer = power_text image (found_of kept pending with_it); after = at_of (IsOn [] (found_of kept pending with_it) []) (powered_notes notes) }
 
 -- a command to a card that is on, where its plan cuts none of its decisions or this one
-abbrev pub commanded : ImageData → List Exchange → List Decided → List Decided → Notes → List ℕ → Option Cut → DeskTurn
+abbrev pub commanded : ImageData → List Exchange → List Decided → List Decided → NotesData → List ℕ → Option Cut → DeskTurn
 commanded image session found taken notes command None = record {
   answer = answer_text (card_answer image (found ++ taken) session command).answer;
   after = at_of (IsOn (session ++ record { command = command; answer = (card_answer image (found ++ taken) session command).answer } ∷ []) found
@@ -129,7 +100,7 @@ commanded image session found taken notes command (Some cut) = record {
 }
 
 -- by where the card is
-abbrev pub power_turn : ImageData → Bool → Notes → Side → DeskTurn
+abbrev pub power_turn : ImageData → Bool → NotesData → Side → DeskTurn
 power_turn image with_it notes (IsOn session found taken) = desk_powered image with_it notes (found ++ taken) None
 power_turn image with_it notes (IsOff kept pending since) = desk_powered image with_it notes kept pending
 
@@ -137,7 +108,7 @@ abbrev pub off_side : Side → Side
 off_side (IsOn session found taken) = IsOff (found ++ taken) None (record { found = found; kept = taken; unsure = None })
 off_side (IsOff kept pending since) = IsOff kept pending since
 
-abbrev pub command_turn : ImageData → Notes → List ℕ → Side → DeskTurn
+abbrev pub command_turn : ImageData → NotesData → List ℕ → Side → DeskTurn
 command_turn image notes command (IsOn session found taken) =
     commanded image session found taken notes command (cut_of notes.plan (length taken) (card_answer image (found ++ taken) session command).new)
 command_turn image notes command (IsOff kept pending since) = record { answer = other_text; after = at_of (IsOff kept pending since) notes }
@@ -151,7 +122,7 @@ abbrev pub pull_turn : At → List ℕ → Tear → DeskTurn
 pull_turn at line tear = record { answer = line ++ 10 ∷ []; after = at_of at.side (record at.notes { next = Some tear }) }
 
 -- its state; of a card that is off, as a power-up without a plan finds it, which is what the next one finds
-abbrev pub state_turn : ImageData → Bool → Notes → Side → DeskTurn
+abbrev pub state_turn : ImageData → Bool → NotesData → Side → DeskTurn
 state_turn image with_it notes (IsOn session found taken) = record {
   answer = state_text (totals (opening_of image) (found ++ taken));
   after = at_of (IsOn session found taken) notes;
@@ -195,15 +166,10 @@ pub record SideHolds (icc : CardSeen) (plan : Option Tear) (told : List Told) (s
   pub stands : SideStands icc plan side
   pub told_is : told ≡ told_since (opening_of icc.image) (since_of side)
 
-pub record DeskStands (icc : CardSeen) (notes : Notes) (told : List Told) (at : At) : Type 0 where
+pub record DeskStands (icc : CardSeen) (notes : NotesData) (told : List Told) (at : At) : Type 0 where
   pub notes_are : at.notes ≡ notes
   pub side : SideStands icc notes.plan at.side
   pub told_is : told ≡ told_since (opening_of icc.image) (since_of at.side)
-
--- both are plans
-pub record ArePlans (notes : Notes) : Type 0 where
-  pub now : IsTrue (is_plan notes.plan)
-  pub later : IsTrue (is_plan notes.next)
 
 -- a tear that is asked for can be planned
 abbrev pub CanBeDone : Order → Type 0
@@ -218,7 +184,7 @@ CanBePlanned (Asks question) = Unit {0}
 CanBePlanned Other = Unit {0}
 
 -- this was answered, and the card stands where the turn leaves it
-pub record IsTurn (icc : CardSeen) (notes : Notes) (told : List Told) (text : List ℕ) (turn : DeskTurn) : Type 0 where
+pub record IsTurn (icc : CardSeen) (notes : NotesData) (told : List Told) (text : List ℕ) (turn : DeskTurn) : Type 0 where
   pub answer_is : text ≡ turn.answer
   pub stands : DeskStands icc notes told turn.after
 
@@ -233,11 +199,10 @@ abbrev pub IsCardTalk : ImageData → List Turn → Type 0
 IsCardTalk image turns = (at : At) × CardTalked image desk_at_first turns at
 
 -- a card that has answered these lines so stands in the reader
-pub record HasAnswered (icc : CardSeen) (notes : Notes) (told : List Told) (turns : List Turn) : Type 0 where
+pub record HasAnswered (icc : CardSeen) (notes : NotesData) (told : List Told) (turns : List Turn) : Type 0 where
   pub at : At
   pub talked : CardTalked icc.image desk_at_first turns at
   pub stands : DeskStands icc notes told at
-  pub plans : ArePlans notes
 
 -- it says nothing before the first line
 abbrev pub card_opening : Opening

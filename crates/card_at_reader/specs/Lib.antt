@@ -5,3 +5,4 @@ pub mod SincePower
 pub mod Top
 pub mod TornText
 pub mod Words
+pub mod Notes

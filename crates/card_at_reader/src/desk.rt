@@ -10,7 +10,8 @@ ghost use Rattle.card_state.specs.Decisions.{Decided};
 ghost use Rattle.emv_ports.specs.Cut.{is_plan};
 ghost use Rattle.report_text.specs.Text.{all_shown};
 ghost use Rattle.card_at_reader.specs.Desk as spec;
-ghost use Rattle.card_at_reader.specs.Desk.{ArePlans, At, HasAnswered, IsCardTalk, CanBeDone, IsTurn, Side, SideHolds, SideStands, DeskStands, at_of, card_opening};
+ghost use Rattle.card_at_reader.specs.Desk.{At, HasAnswered, IsCardTalk, CanBeDone, IsTurn, Side, SideHolds, SideStands, DeskStands, at_of, card_opening};
+ghost use Rattle.card_at_reader.specs.Notes.{answered_notes, torn_notes};
 ghost use Rattle.card_at_reader.specs.SincePower.{Since, told_coming, told_of_cut};
 
 use crate::notes::Notes;
@@ -42,17 +43,11 @@ pub fn put_in<'i, P: Pages>(alloc: Global, image: &'i Image, pages: P) -> Desk<'
     requires off { (P.memory pages).on ≡ false }
     requires plan { (P.memory pages).plan ≡ None }
     ensures stands { DeskStands result.icc result.notes result.told.items (spec.desk_at_first) }
-    ensures plans { ArePlans result.notes }
     ensures image { result.icc.image ≡ image.now }
 {
     Desk {
         icc: Icc::new(image, pages),
-        notes: Notes {
-            plan: None,
-            next: None,
-            torn: None,
-            why: None,
-        },
+        notes: Notes::new(),
         told: Vec::new(alloc),
     }
 }
@@ -80,55 +75,19 @@ fn tell_power(image: &Image, state: &CardState, out: &mut Text)
     tell(out, &text.as_slice()[3..]);
 }
 
-/// Takes the plan of the next power-up, behind which no cryptogram was made yet.
-fn take_plan(notes: &mut Notes)
-    requires { ArePlans notes.old }
-    ensures taken { notes.new ≡ spec.powered_notes notes.old }
-    ensures plans { ArePlans notes.new }
-{
-    notes.why = None;
-    if let Some(tear) = notes.next {
-        notes.plan = Some(tear);
-        notes.next = None;
-    }
-}
-
-/// Notes that the plan has fired.
-fn note_torn(notes: &mut Notes)
-    requires { ArePlans notes.old }
-    ensures torn { notes.new ≡ spec.torn_notes notes.old }
-    ensures plans { ArePlans notes.new }
-{
-    notes.torn = notes.plan;
-    notes.plan = None;
-}
-
-/// Notes why the cryptogram of a command is of its kind, where it made one.
-fn note_reason(notes: &mut Notes, reason: Option<Reason>)
-    requires { ArePlans notes.old }
-    ensures noted { notes.new ≡ spec.answered_notes notes.old reason }
-    ensures plans { ArePlans notes.new }
-{
-    if reason.is_some() {
-        notes.why = reason;
-    }
-}
-
 /// Turns a card on that is off.
 fn turn_on<P: Pages>(desk: &mut Desk<'_, P>, out: &mut Text)
     requires off { IsIccOff desk.old.icc }
-    requires plans { ArePlans desk.old.notes }
     ensures turn { (kept : List Decided) (pending : Option Decided) → IccOff desk.old.icc kept pending
         → (with_it : Bool) × IsTurn desk.new.icc desk.new.notes desk.new.told.items out.new.items (spec.desk_powered desk.old.icc.image with_it desk.old.notes kept pending) }
-    ensures plans { ArePlans desk.new.notes }
     ensures image { desk.new.icc.image ≡ desk.old.icc.image }
 {
-    take_plan(&mut desk.notes);
+    desk.notes.take_plan();
     desk.told.clear();
-    match desk.icc.power_up(desk.notes.plan) {
+    match desk.icc.power_up(desk.notes.plan()) {
         Ok(()) => tell_power(desk.icc.image(), desk.icc.totals(), out),
         Err(Gone) => {
-            note_torn(&mut desk.notes);
+            desk.notes.note_torn();
             tell(out, b"power torn\n");
         }
     }
@@ -167,16 +126,14 @@ fn note_answered<P: Pages>(
     answer: &[u8],
     out: &mut Text,
 ) -> Result<(), AllocError>
-    requires plans { ArePlans desk.old.notes }
     requires few { length answer.now ≤ 258 }
     ensures told { OnOk result (desk.new.told.items ≡ desk.old.told.items ++ told_coming coming.now) }
-    ensures noted { OnOk result (desk.new.notes ≡ spec.answered_notes desk.old.notes reason) }
+    ensures noted { OnOk result (desk.new.notes ≡ answered_notes desk.old.notes reason) }
     ensures text { OnOk result (out.new.items ≡ spec.answer_text answer.now) }
-    ensures plans { ArePlans desk.new.notes }
     ensures icc { desk.new.icc ≡ desk.old.icc }
 {
     note_taken(&mut desk.told, coming)?;
-    note_reason(&mut desk.notes, reason);
+    desk.notes.note_reason(reason);
     tell_answer(answer, out);
     Ok(())
 }
@@ -187,16 +144,14 @@ fn note_cut_off<P: Pages>(
     coming: &Coming,
     out: &mut Text,
 ) -> Result<(), AllocError>
-    requires plans { ArePlans desk.old.notes }
     ensures told { OnOk result (desk.new.told.items
         ≡ desk.old.told.items ++ told_of_cut desk.old.notes.plan (length desk.old.told.items) (told_coming coming.now)) }
-    ensures noted { OnOk result (desk.new.notes ≡ spec.torn_notes desk.old.notes) }
+    ensures noted { OnOk result (desk.new.notes ≡ torn_notes desk.old.notes) }
     ensures text { OnOk result (out.new.items ≡ spec.torn_text) }
-    ensures plans { ArePlans desk.new.notes }
     ensures icc { desk.new.icc ≡ desk.old.icc }
 {
-    note_torn_off(&mut desk.told, desk.notes.plan, coming)?;
-    note_torn(&mut desk.notes);
+    note_torn_off(&mut desk.told, desk.notes.plan(), coming)?;
+    desk.notes.note_torn();
     tell(out, b"< torn\n");
     Ok(())
 }
@@ -208,13 +163,11 @@ fn command_on<P: Pages>(
     out: &mut Text,
 ) -> Result<(), AllocError>
     requires on { has_power desk.old.icc ≡ true }
-    requires plans { ArePlans desk.old.notes }
     ensures turn { OnOk result ((session : List Exchange) (found : List Decided) (taken : List Decided)
         → SideHolds desk.old.icc desk.old.notes.plan desk.old.told.items (spec.IsOn session found taken)
         → IsTurn desk.new.icc desk.new.notes desk.new.told.items out.new.items
         (spec.commanded desk.old.icc.image session found taken desk.old.notes command.now
         (cut_of desk.old.notes.plan (length taken) (card_answer desk.old.icc.image (found ++ taken) session command.now).new))) }
-    ensures plans { ArePlans desk.new.notes }
     ensures image { desk.new.icc.image ≡ desk.old.icc.image }
 {
     let foretold = desk.icc.foretell(command);
@@ -229,10 +182,8 @@ fn command_on<P: Pages>(
 
 /// Gives a card a command.
 fn give<P: Pages>(desk: &mut Desk<'_, P>, command: &[u8], out: &mut Text) -> Result<(), AllocError>
-    requires plans { ArePlans desk.old.notes }
     ensures turn { OnOk result ((side : Side) → SideHolds desk.old.icc desk.old.notes.plan desk.old.told.items side
         → IsTurn desk.new.icc desk.new.notes desk.new.told.items out.new.items (spec.command_turn desk.old.icc.image desk.old.notes command.now side)) }
-    ensures plans { ArePlans desk.new.notes }
     ensures image { desk.new.icc.image ≡ desk.old.icc.image }
 {
     if !desk.icc.is_on() {
@@ -244,15 +195,13 @@ fn give<P: Pages>(desk: &mut Desk<'_, P>, command: &[u8], out: &mut Text) -> Res
 
 /// Plans a tear for the next power-up, and says the line again.
 fn plan_tear<P: Pages>(desk: &mut Desk<'_, P>, tear: Tear, line: &[u8], out: &mut Text)
-    requires plans { ArePlans desk.old.notes }
     requires tear { IsTrue (is_plan (Some tear)) }
     requires short { length line.now ≤ 8191 }
     ensures turn { (side : Side) → SideHolds desk.old.icc desk.old.notes.plan desk.old.told.items side
         → IsTurn desk.new.icc desk.new.notes desk.new.told.items out.new.items (spec.pull_turn (at_of side desk.old.notes) line.now tear) }
-    ensures plans { ArePlans desk.new.notes }
     ensures image { desk.new.icc.image ≡ desk.old.icc.image }
 {
-    desk.notes.next = Some(tear);
+    desk.notes.plan_next(tear);
     tell(out, line);
     append(out, b"\n");
 }
@@ -260,10 +209,8 @@ fn plan_tear<P: Pages>(desk: &mut Desk<'_, P>, tear: Tear, line: &[u8], out: &mu
 /// Turns a card off, where it is on, and on.
 fn power<P: Pages>(desk: &mut Desk<'_, P>, out: &mut Text)
     requires stands { (side : Side) × SideStands desk.old.icc desk.old.notes.plan side }
-    requires plans { ArePlans desk.old.notes }
     ensures turn { (side : Side) → SideHolds desk.old.icc desk.old.notes.plan desk.old.told.items side
         → (with_it : Bool) × IsTurn desk.new.icc desk.new.notes desk.new.told.items out.new.items (spec.power_turn desk.old.icc.image with_it desk.old.notes side) }
-    ensures plans { ArePlans desk.new.notes }
     ensures image { desk.new.icc.image ≡ desk.old.icc.image }
 {
     turn_off(desk);
@@ -278,13 +225,11 @@ fn obey<P: Pages>(
     out: &mut Text,
 ) -> Result<(), AllocError>
     requires stands { (side : Side) × SideStands desk.old.icc desk.old.notes.plan side }
-    requires plans { ArePlans desk.old.notes }
     requires tear { CanBeDone order.now }
     requires short { length line.now ≤ 8191 }
     ensures turn { OnOk result ((side : Side) → SideHolds desk.old.icc desk.old.notes.plan desk.old.told.items side
         → (with_it : Bool) × IsTurn desk.new.icc desk.new.notes desk.new.told.items out.new.items
         (spec.order_turn desk.old.icc.image with_it (at_of side desk.old.notes) line.now order.now)) }
-    ensures plans { ArePlans desk.new.notes }
     ensures image { desk.new.icc.image ≡ desk.old.icc.image }
 {
     match order {
@@ -350,13 +295,13 @@ fn tell_asked<P: Pages>(
         Question::State => tell_card(desk, text),
         Question::Torn => {
             let mut line = LineText::new();
-            tell_torn(&mut line, desk.notes.torn);
+            tell_torn(&mut line, desk.notes.torn());
             put_line(text, line.as_slice())
         }
         Question::Decided => tell_decided(text, desk.told.as_slice()),
         Question::Why => {
             let mut line = LineText::new();
-            tell_reason(&mut line, &desk.notes.why);
+            tell_reason(&mut line, desk.notes.why());
             put_line(text, line.as_slice())
         }
     }
@@ -370,13 +315,11 @@ fn answer_word<P: Pages>(
     text: &mut Vec<u8>,
 ) -> Result<(), AllocError>
     requires stands { (side : Side) × SideStands desk.old.icc desk.old.notes.plan side }
-    requires plans { ArePlans desk.old.notes }
     requires tear { spec.CanBePlanned word.now }
     requires short { length line.now ≤ 8191 }
     ensures turn { OnOk result ((side : Side) → SideHolds desk.old.icc desk.old.notes.plan desk.old.told.items side
         → (with_it : Bool) × IsTurn desk.new.icc desk.new.notes desk.new.told.items text.new.items
         (spec.turn_by desk.old.icc.image with_it (at_of side desk.old.notes) line.now word.now)) }
-    ensures plans { ArePlans desk.new.notes }
     ensures image { desk.new.icc.image ≡ desk.old.icc.image }
 {
     match word {
@@ -398,11 +341,9 @@ pub fn answer_line<P: Pages>(
     text: &mut Vec<u8>,
 ) -> Result<(), AllocError>
     requires stands { (at : At) × DeskStands desk.old.icc desk.old.notes desk.old.told.items at }
-    requires plans { ArePlans desk.old.notes }
     requires short { length line.now ≤ 8191 }
     ensures turn { OnOk result ((at : At) → DeskStands desk.old.icc desk.old.notes desk.old.told.items at
         → (with_it : Bool) × IsTurn desk.new.icc desk.new.notes desk.new.told.items text.new.items (spec.turn desk.old.icc.image with_it at line.now)) }
-    ensures plans { ArePlans desk.new.notes }
     ensures image { desk.new.icc.image ≡ desk.old.icc.image }
 {
     let word = word_of(alloc, line)?;

@@ -1,4 +1,4 @@
-use Rattle.std.proofs.Common.{◌≡◌, ◌++◌, ℕ, List, length, ap, sym, subst, ◌∙◌}
+use Rattle.std.proofs.Common.{◌≡◌, ◌++◌, length, ap, sym, subst, ◌∙◌}
 use Rattle.card_app.specs.Answering.{card_answer}
 use Rattle.card_app.specs.SeenCard.{CardSeen}
 use Rattle.card_files.specs.Files.{opening_of}

@@ -1,6 +1,6 @@
 use Rattle.std.proofs.Common.{sym, ◌∙◌}
 use Rattle.std.proofs.lemmas.Result.{on_ok_weaker}
-use Rattle.card_at_reader.proofs.Sides.{given_off, given_on}
+use Rattle.card_at_reader.proofs.Sides.{given_on}
 use Rattle.card_at_reader.proofs.desk.give.Goals as goal
 
 pub returns-clause-turn : goal.returns-clause-turn

@@ -7,7 +7,7 @@ use Rattle.card_at_reader.proofs.top.serve_card.Goals as goal
 
 pub converse-requires : goal.converse-requires
 converse-requires g c = record {
-  begun = none_answered c.put_in-desk.result.icc c.put_in-desk.result.notes c.put_in-desk.result.told.items c.put_in-desk.ensures.stands c.put_in-desk.ensures.plans;
+  begun = none_answered c.put_in-desk.result.icc c.put_in-desk.result.notes c.put_in-desk.result.told.items c.put_in-desk.ensures.stands;
 }
 
 pub returns-clause-ends : goal.returns-clause-ends
