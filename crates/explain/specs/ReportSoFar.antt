@@ -1,5 +1,5 @@
 -- How far a report has come, and what of it was handed on.
-use Rattle.std.specs.Prelude.{ℕ, ◌≡◌, ◌<◌, Bool, true, false, List, [], ◌++◌, length, Result, Ok, Err}
+use Rattle.std.specs.Prelude.{ℕ, ◌≡◌, ◌<◌, Bool, true, false, List, [], ◌++◌, length, take, Result, Ok, Err}
 use Rattle.std.specs.List.{All, flat_map}
 use Rattle.std.specs.declared.option.Option.{Option}
 use Rattle.std.specs.Io.KnownBytes.{Appends}
@@ -41,6 +41,21 @@ pub record TellingWasStopped (way : Way) (seen : List ℕ) (first held : Option 
   pub output : List ℕ
   pub explains : Explains way seen output
   pub written : AppendsFront first held output
+
+-- behind any bytes that a teller has taken these were taken too
+abbrev pub TakesBytes : Teller → Teller → List ℕ → Option (List ℕ) → Option (List ℕ) → Type 0
+TakesBytes old new bytes held after = (seen : List ℕ) (first : Option (List ℕ)) → IsReportSoFar (way_in old) old.line.items (stand_of old) seen first held
+    → IsReportSoFar (way_in new) new.line.items (stand_of new) (seen ++ bytes) first after
+
+-- or the sink took no more, or there was no memory, when all of these had come
+abbrev pub StopsBehind : Teller → List ℕ → Option (List ℕ) → Option (List ℕ) → Type 0
+StopsBehind old bytes held after = (seen : List ℕ) (first : Option (List ℕ)) → IsReportSoFar (way_in old) old.line.items (stand_of old) seen first held
+    → TellingWasStopped (way_in old) (seen ++ bytes) first after
+
+-- or when some of them had come
+abbrev pub StopsWithin : Teller → List ℕ → Option (List ℕ) → Option (List ℕ) → Type 0
+StopsWithin old bytes held after = (seen : List ℕ) (first : Option (List ℕ)) → IsReportSoFar (way_in old) old.line.items (stand_of old) seen first held
+    → (taken : ℕ) × TellingWasStopped (way_in old) (seen ++ take taken bytes) first after
 
 -- these bytes have come, and what they are explained as was handed on
 pub record Ended (way : Way) (seen : List ℕ) (first held : Option (List ℕ)) : Type 0 where

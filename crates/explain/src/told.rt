@@ -1,5 +1,5 @@
 //! The lines of a report as they come, each handed on with its words.
-ghost use Rattle.std.specs.Prelude.{◌≡◌, ◌≢◌, ◌∷◌, ◌++◌, ◌≤◌, ◌||◌, ℕ, List, [], true, false, OnOk, OnErr, IfOk, take, if◌then◌else◌};
+ghost use Rattle.std.specs.Prelude.{◌≡◌, ◌≢◌, ◌∷◌, ◌++◌, ◌≤◌, ◌||◌, ℕ, List, [], true, false, OnOk, OnErr, IfOk, if◌then◌else◌};
 ghost use Rattle.std.specs.declared.option.Option.{Option};
 ghost use Rattle.std.specs.Io.KnownBytes.{Appends};
 ghost use Rattle.arrayvec.specs.ArrayVec.{array_vec_len};
@@ -7,7 +7,7 @@ ghost use Rattle.emv_ports.specs.Growth.{AppendsFront};
 ghost use Rattle.narrator.specs.State.{seen_state};
 ghost use Rattle.narrator.specs.Words.{Narrates, is_text_left};
 ghost use Rattle.report_lines.specs.Lines.{AreWordLines};
-ghost use Rattle.explain.specs.ReportSoFar.{IsReportSoFar, TellingWasStopped, Ended, HasToldStop, way_in, stand_of};
+ghost use Rattle.explain.specs.ReportSoFar.{IsReportSoFar, StopsBehind, StopsWithin, TakesBytes, TellingWasStopped, Ended, HasToldStop, way_in, stand_of};
 ghost use Rattle.explain.specs.ToldLines.{rest_behind_lines};
 
 use arrayvec::ArrayVec;
@@ -108,28 +108,7 @@ fn put_shown<K: Sink>(sink: &mut K, shown: bool, text: &[u8], words: &[u8]) -> R
     }
 }
 
-/// Hands on what came of a line that is too long to be told once a byte more of it comes.
-fn flush<K: Sink>(teller: &mut Teller, sink: &mut K) -> Result<(), Stop>
-    requires { 8192 ≤ array_vec_len teller.old.line }
-    ensures ok { OnOk result ((seen : List ℕ) (first : Option (List ℕ)) (byte : ℕ) → byte ≢ 10
-        → IsReportSoFar (way_in teller.old) teller.old.line.items (stand_of teller.old) seen first (K.held sink.old)
-        → IsReportSoFar (way_in teller.new) (teller.new.line.items ++ byte ∷ []) (stand_of teller.new) (seen ++ byte ∷ []) first (K.held sink.new)) }
-    ensures front { OnErr result (AppendsFront (K.held sink.old) (K.held sink.new) (rest_behind_lines teller.old.all teller.old.line.items)) }
-    ensures empty { OnOk result (array_vec_len teller.new.line ≡ 0) }
-    ensures way { way_in teller.new ≡ way_in teller.old }
-    ensures stop { HasToldStop (K.faults sink.old) (K.faults sink.new) result }
-{
-    match put_rest(sink, teller.all, teller.line.as_slice()) {
-        Ok(()) => {
-            teller.line.clear();
-            teller.long = true;
-            Ok(())
-        }
-        Err(stop) => Err(stop),
-    }
-}
-
-/// Makes room for a byte of the line, which comes next.
+/// Makes room for a byte of the line, which comes next: where the line is too long with it, what came of it is handed on.
 fn make_room<K: Sink>(teller: &mut Teller, sink: &mut K) -> Result<(), Stop>
     ensures ok { OnOk result ((seen : List ℕ) (first : Option (List ℕ)) (byte : ℕ) → byte ≢ 10
         → IsReportSoFar (way_in teller.old) teller.old.line.items (stand_of teller.old) seen first (K.held sink.old)
@@ -142,16 +121,21 @@ fn make_room<K: Sink>(teller: &mut Teller, sink: &mut K) -> Result<(), Stop>
     if teller.line.len() < MOST {
         return Ok(());
     }
-    flush(teller, sink)
+    match put_rest(sink, teller.all, teller.line.as_slice()) {
+        Ok(()) => {
+            teller.line.clear();
+            teller.long = true;
+            Ok(())
+        }
+        Err(stop) => Err(stop),
+    }
 }
 
-/// Takes a byte of the line.
+/// TakesBytes a byte of the line.
 fn take_inner<K: Sink>(teller: &mut Teller, byte: u8, sink: &mut K) -> Result<(), Stop>
     requires { byte ≢ 10 }
-    ensures ok { OnOk result ((seen : List ℕ) (first : Option (List ℕ)) → IsReportSoFar (way_in teller.old) teller.old.line.items (stand_of teller.old) seen first (K.held sink.old)
-        → IsReportSoFar (way_in teller.new) teller.new.line.items (stand_of teller.new) (seen ++ byte ∷ []) first (K.held sink.new)) }
-    ensures err { OnErr result ((seen : List ℕ) (first : Option (List ℕ)) → IsReportSoFar (way_in teller.old) teller.old.line.items (stand_of teller.old) seen first (K.held sink.old)
-        → TellingWasStopped (way_in teller.old) (seen ++ byte ∷ []) first (K.held sink.new)) }
+    ensures ok { OnOk result (TakesBytes teller.old teller.new (byte ∷ []) (K.held sink.old) (K.held sink.new)) }
+    ensures err { OnErr result (StopsBehind teller.old (byte ∷ []) (K.held sink.old) (K.held sink.new)) }
     ensures way { way_in teller.new ≡ way_in teller.old }
     ensures stop { HasToldStop (K.faults sink.old) (K.faults sink.new) result }
 {
@@ -167,10 +151,8 @@ fn take_inner<K: Sink>(teller: &mut Teller, byte: u8, sink: &mut K) -> Result<()
 /// Ends a line that is too long to be told.
 fn end_long<K: Sink>(teller: &mut Teller, sink: &mut K) -> Result<(), Stop>
     requires { teller.old.long ≡ true }
-    ensures ok { OnOk result ((seen : List ℕ) (first : Option (List ℕ)) → IsReportSoFar (way_in teller.old) teller.old.line.items (stand_of teller.old) seen first (K.held sink.old)
-        → IsReportSoFar (way_in teller.new) teller.new.line.items (stand_of teller.new) (seen ++ 10 ∷ []) first (K.held sink.new)) }
-    ensures err { OnErr result ((seen : List ℕ) (first : Option (List ℕ)) → IsReportSoFar (way_in teller.old) teller.old.line.items (stand_of teller.old) seen first (K.held sink.old)
-        → TellingWasStopped (way_in teller.old) (seen ++ 10 ∷ []) first (K.held sink.new)) }
+    ensures ok { OnOk result (TakesBytes teller.old teller.new (10 ∷ []) (K.held sink.old) (K.held sink.new)) }
+    ensures err { OnErr result (StopsBehind teller.old (10 ∷ []) (K.held sink.old) (K.held sink.new)) }
     ensures way { way_in teller.new ≡ way_in teller.old }
     ensures stop { HasToldStop (K.faults sink.old) (K.faults sink.new) result }
 {
@@ -206,10 +188,8 @@ fn tell(teller: &mut Teller) -> Result<bool, AllocError>
 /// Ends a line, and hands it on with its words.
 fn end_short<K: Sink>(teller: &mut Teller, sink: &mut K) -> Result<(), Stop>
     requires { teller.old.long ≡ false }
-    ensures ok { OnOk result ((seen : List ℕ) (first : Option (List ℕ)) → IsReportSoFar (way_in teller.old) teller.old.line.items (stand_of teller.old) seen first (K.held sink.old)
-        → IsReportSoFar (way_in teller.new) teller.new.line.items (stand_of teller.new) (seen ++ 10 ∷ []) first (K.held sink.new)) }
-    ensures err { OnErr result ((seen : List ℕ) (first : Option (List ℕ)) → IsReportSoFar (way_in teller.old) teller.old.line.items (stand_of teller.old) seen first (K.held sink.old)
-        → (taken : ℕ) × TellingWasStopped (way_in teller.old) (seen ++ take taken (10 ∷ [])) first (K.held sink.new)) }
+    ensures ok { OnOk result (TakesBytes teller.old teller.new (10 ∷ []) (K.held sink.old) (K.held sink.new)) }
+    ensures err { OnErr result (StopsWithin teller.old (10 ∷ []) (K.held sink.old) (K.held sink.new)) }
     ensures way { way_in teller.new ≡ way_in teller.old }
     ensures stop { HasToldStop (K.faults sink.old) (K.faults sink.new) result }
 {
@@ -226,12 +206,10 @@ fn end_short<K: Sink>(teller: &mut Teller, sink: &mut K) -> Result<(), Stop>
     }
 }
 
-/// Takes a byte of the report.
+/// TakesBytes a byte of the report.
 fn take_byte<K: Sink>(teller: &mut Teller, byte: u8, sink: &mut K) -> Result<(), Stop>
-    ensures ok { OnOk result ((seen : List ℕ) (first : Option (List ℕ)) → IsReportSoFar (way_in teller.old) teller.old.line.items (stand_of teller.old) seen first (K.held sink.old)
-        → IsReportSoFar (way_in teller.new) teller.new.line.items (stand_of teller.new) (seen ++ byte ∷ []) first (K.held sink.new)) }
-    ensures err { OnErr result ((seen : List ℕ) (first : Option (List ℕ)) → IsReportSoFar (way_in teller.old) teller.old.line.items (stand_of teller.old) seen first (K.held sink.old)
-        → (taken : ℕ) × TellingWasStopped (way_in teller.old) (seen ++ take taken (byte ∷ [])) first (K.held sink.new)) }
+    ensures ok { OnOk result (TakesBytes teller.old teller.new (byte ∷ []) (K.held sink.old) (K.held sink.new)) }
+    ensures err { OnErr result (StopsWithin teller.old (byte ∷ []) (K.held sink.old) (K.held sink.new)) }
     ensures way { way_in teller.new ≡ way_in teller.old }
     ensures stop { HasToldStop (K.faults sink.old) (K.faults sink.new) result }
 {
@@ -244,12 +222,10 @@ fn take_byte<K: Sink>(teller: &mut Teller, byte: u8, sink: &mut K) -> Result<(),
     }
 }
 
-/// Takes bytes of the report.
+/// TakesBytes bytes of the report.
 pub fn take_bytes<K: Sink>(teller: &mut Teller, bytes: &[u8], sink: &mut K) -> Result<(), Stop>
-    ensures ok { OnOk result ((seen : List ℕ) (first : Option (List ℕ)) → IsReportSoFar (way_in teller.old) teller.old.line.items (stand_of teller.old) seen first (K.held sink.old)
-        → IsReportSoFar (way_in teller.new) teller.new.line.items (stand_of teller.new) (seen ++ bytes.now) first (K.held sink.new)) }
-    ensures err { OnErr result ((seen : List ℕ) (first : Option (List ℕ)) → IsReportSoFar (way_in teller.old) teller.old.line.items (stand_of teller.old) seen first (K.held sink.old)
-        → (taken : ℕ) × TellingWasStopped (way_in teller.old) (seen ++ take taken bytes.now) first (K.held sink.new)) }
+    ensures ok { OnOk result (TakesBytes teller.old teller.new bytes.now (K.held sink.old) (K.held sink.new)) }
+    ensures err { OnErr result (StopsWithin teller.old bytes.now (K.held sink.old) (K.held sink.new)) }
     ensures way { way_in teller.new ≡ way_in teller.old }
     ensures stop { HasToldStop (K.faults sink.old) (K.faults sink.new) result }
 {
