@@ -53,12 +53,12 @@ pub record StateData : Type 0 where
   pub is_unsure : Bool
 
 -- what the lines before left: of each lane, and of the cards' counters
-abbrev pub state_in : ReportPast → StateData
-state_in past = record { lanes = past.lanes.items; cards = past.cards.items; changed = past.changed.items; charges = past.charges.items; is_unsure = past.is_unsure }
+abbrev pub past_state : ReportPast → StateData
+past_state past = record { lanes = past.lanes.items; cards = past.cards.items; changed = past.changed.items; charges = past.charges.items; is_unsure = past.is_unsure }
 
 -- what a teller has kept of them
 abbrev pub seen_state : Narrator → StateData
-seen_state n = state_in n.past
+seen_state n = past_state n.past
 
 -- of a lane before its first line
 abbrev pub untold : LanePast

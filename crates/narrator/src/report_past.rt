@@ -2,7 +2,7 @@
 ghost use Rattle.std.specs.Prelude.{◌≡◌, ◌<◌, [], replicate, slice_get, OnOk, IfOk, option_map};
 ghost use Rattle.message_words.specs.Cards.{power_words};
 ghost use Rattle.narrator.specs.State as state;
-ghost use Rattle.narrator.specs.State.{state_in};
+ghost use Rattle.narrator.specs.State.{past_state};
 ghost use Rattle.narrator.specs.Words as spec;
 ghost use Rattle.purchase_reasons.specs.Kept.{cards_data};
 ghost use Rattle.report_lines.specs.Bytes.{bytes_told};
@@ -53,7 +53,7 @@ fn fresh_lanes(alloc: Global) -> Result<Vec<LanePast>, AllocError>
 impl ReportPast {
     /// Before the first line.
     pub(crate) fn new(alloc: Global) -> Result<ReportPast, AllocError>
-        ensures { IfOk result (λ past. state_in past ≡ state.start) }
+        ensures { IfOk result (λ past. past_state past ≡ state.start) }
     {
         let lanes = fresh_lanes(alloc)?;
         Ok(ReportPast {
@@ -67,7 +67,7 @@ impl ReportPast {
 
     /// The number of the last purchase of a line's lane that ended before it; 0 where none has.
     pub(crate) fn last_end(&self, whose: &Whose<'_>) -> u64
-        ensures { result ≡ spec.last_end (state_in self.now) (seen_whose whose.now) }
+        ensures { result ≡ spec.last_end (past_state self.now) (seen_whose whose.now) }
     {
         match whose {
             Whose::Lane(lane) => match self.lanes.get(usize::from(*lane)) {
@@ -81,7 +81,7 @@ impl ReportPast {
     /// Tells a command.
     fn tell_sent(&mut self, basis: &Basis, place: u8, bytes: &[u8], out: &mut WordLines)
         ensures words { Tells out.old out.new (spec.at_past (spec.sent_words basis.now.filter.brief basis.now.terminals.items place bytes.now) (slice_get self.old.lanes.items place)) }
-        ensures state { state_in self.new ≡ state.state_changed (state.lane_asked basis.now.terminals.items place bytes.now) (state_in self.old) place }
+        ensures state { past_state self.new ≡ state.state_changed (state.lane_asked basis.now.terminals.items place bytes.now) (past_state self.old) place }
     {
         let brief = basis.filter.brief;
         match self.lanes.get_mut(usize::from(place)) {
@@ -93,7 +93,7 @@ impl ReportPast {
     /// Tells an answer.
     fn tell_given(&mut self, place: u8, bytes: &[u8], brief: bool, out: &mut WordLines)
         ensures words { Tells out.old out.new (spec.at_past (spec.given_words brief bytes.now) (slice_get self.old.lanes.items place)) }
-        ensures state { state_in self.new ≡ state.state_changed (state.lane_answered bytes.now) (state_in self.old) place }
+        ensures state { past_state self.new ≡ state.state_changed (state.lane_answered bytes.now) (past_state self.old) place }
     {
         match self.lanes.get_mut(usize::from(place)) {
             Some(past) => past.tell_given(bytes, brief, out),
@@ -104,7 +104,7 @@ impl ReportPast {
     /// Tells a reply of the issuer.
     fn tell_from_host(&mut self, place: u8, bytes: &[u8], brief: bool, out: &mut WordLines)
         ensures words { Tells out.old out.new (spec.at_past (λ _. spec.from_host_words brief bytes.now) (slice_get self.old.lanes.items place)) }
-        ensures state { state_in self.new ≡ state.state_changed (state.lane_replied bytes.now) (state_in self.old) place }
+        ensures state { past_state self.new ≡ state.state_changed (state.lane_replied bytes.now) (past_state self.old) place }
     {
         match self.lanes.get_mut(usize::from(place)) {
             Some(past) => past.tell_from_host(bytes, brief, out),
@@ -114,7 +114,7 @@ impl ReportPast {
 
     /// Keeps that a request was sent to the issuer.
     fn keep_request(&mut self, place: u8)
-        ensures state { state_in self.new ≡ state.state_changed state.lane_requested (state_in self.old) place }
+        ensures state { past_state self.new ≡ state.state_changed state.lane_requested (past_state self.old) place }
     {
         match self.lanes.get_mut(usize::from(place)) {
             Some(past) => past.note_request(),
@@ -124,7 +124,7 @@ impl ReportPast {
 
     /// The issuer's reply, and what was known of the account before it.
     fn reply_at(&self, basis: &Basis, place: u8, bytes: &[u8]) -> Option<Reply>
-        ensures { result ≡ state.reply_of_lane (state.manner_from basis.now) (state_in self.now) bytes.now (slice_get self.now.lanes.items place) }
+        ensures { result ≡ state.reply_of_lane (state.manner_from basis.now) (past_state self.now) bytes.now (slice_get self.now.lanes.items place) }
     {
         let known = KnownAccounts {
             accounts: basis.accounts.as_slice(),
@@ -139,7 +139,7 @@ impl ReportPast {
 
     /// Keeps the issuer's reply.
     fn keep_reply(&mut self, place: u8, reply: Option<Reply>)
-        ensures state { state_in self.new ≡ state.state_changed (state.lane_with_reply reply) (state_in self.old) place }
+        ensures state { past_state self.new ≡ state.state_changed (state.lane_with_reply reply) (past_state self.old) place }
     {
         match self.lanes.get_mut(usize::from(place)) {
             Some(past) => past.note_reply(reply),
@@ -149,7 +149,7 @@ impl ReportPast {
 
     /// Takes what a lane's reply approved from its account.
     fn charge_at(&mut self, place: u8) -> Result<(), AllocError>
-        ensures state { OnOk result (state_in self.new ≡ state.with_charges (state_in self.old) place) }
+        ensures state { OnOk result (past_state self.new ≡ state.with_charges (past_state self.old) place) }
     {
         match self.lanes.get(usize::from(place)) {
             Some(past) => charge_reply(&mut self.charges, &past.followed, &past.talk),
@@ -159,7 +159,7 @@ impl ReportPast {
 
     /// Keeps the issuer's reply, and takes what it approved.
     fn reply(&mut self, basis: &Basis, place: u8, bytes: &[u8]) -> Result<(), AllocError>
-        ensures state { OnOk result (state_in self.new ≡ state.state_replied (state.manner_from basis.now) bytes.now (state_in self.old) place) }
+        ensures state { OnOk result (past_state self.new ≡ state.state_replied (state.manner_from basis.now) bytes.now (past_state self.old) place) }
     {
         let reply = self.reply_at(basis, place, bytes);
         self.keep_reply(place, reply);
@@ -184,8 +184,8 @@ impl ReportPast {
         bytes: &[u8],
         out: &mut WordLines,
     ) -> Result<(), AllocError>
-        ensures words { OnOk result (Tells out.old out.new (spec.bytes_words (state.manner_from basis.now) (state_in self.old) place (seen_what what.now) bytes.now)) }
-        ensures state { OnOk result (state_in self.new ≡ state.left_of_bytes (state.manner_from basis.now) (seen_what what.now) bytes.now (state_in self.old) place) }
+        ensures words { OnOk result (Tells out.old out.new (spec.bytes_words (state.manner_from basis.now) (past_state self.old) place (seen_what what.now) bytes.now)) }
+        ensures state { OnOk result (past_state self.new ≡ state.left_of_bytes (state.manner_from basis.now) (seen_what what.now) bytes.now (past_state self.old) place) }
     {
         match what {
             What::Sent(_) => self.tell_sent(basis, place, bytes, out),
@@ -212,8 +212,8 @@ impl ReportPast {
         text: &[u8],
         out: &mut WordLines,
     ) -> Result<(), AllocError>
-        ensures words { OnOk result (Tells out.old out.new (spec.talk_words (state.manner_from basis.now) (state_in self.old) place (seen_what what.now) (bytes_told text.now))) }
-        ensures state { OnOk result (state_in self.new ≡ state.left_of_exchange (state.manner_from basis.now) (seen_what what.now) (bytes_told text.now) (state_in self.old) place) }
+        ensures words { OnOk result (Tells out.old out.new (spec.talk_words (state.manner_from basis.now) (past_state self.old) place (seen_what what.now) (bytes_told text.now))) }
+        ensures state { OnOk result (past_state self.new ≡ state.left_of_exchange (state.manner_from basis.now) (seen_what what.now) (bytes_told text.now) (past_state self.old) place) }
     {
         match bytes_of(basis.alloc, text)? {
             Some(bytes) => self.tell_bytes(basis, place, what, bytes.as_slice(), out),
@@ -248,7 +248,7 @@ impl ReportPast {
 
     /// What is known of the cards: beside the report, and by its lines.
     fn cards_known<'a>(&'a self, basis: &'a Basis) -> Cards<'a>
-        ensures { cards_data result ≡ spec.cards_known (state.manner_from basis.now) (state_in self.now) }
+        ensures { cards_data result ≡ spec.cards_known (state.manner_from basis.now) (past_state self.now) }
     {
         Cards {
             apps: basis.card_apps.as_slice(),
@@ -266,7 +266,7 @@ impl ReportPast {
 
     /// Tells why a lane's purchase came out as it did.
     fn tell_reasons_at(&self, basis: &Basis, place: u8, out: &mut WordLines)
-        ensures { Tells out.old out.new (spec.reasons_at (state.manner_from basis.now) (state_in self.now) (slice_get self.now.lanes.items place)) }
+        ensures { Tells out.old out.new (spec.reasons_at (state.manner_from basis.now) (past_state self.now) (slice_get self.now.lanes.items place)) }
     {
         if let Some(past) = self.past_at(place) {
             tell_reasons(out, &past.followed, &past.talk, &self.cards_known(basis));
@@ -275,7 +275,7 @@ impl ReportPast {
 
     /// Tells why a purchase came out as it did, where that is asked for.
     fn tell_why_at(&self, basis: &Basis, place: u8, out: &mut WordLines)
-        ensures { Tells out.old out.new (spec.why_at (state.manner_from basis.now) (state_in self.now) (slice_get self.now.lanes.items place)) }
+        ensures { Tells out.old out.new (spec.why_at (state.manner_from basis.now) (past_state self.now) (slice_get self.now.lanes.items place)) }
     {
         if basis.filter.why {
             self.tell_reasons_at(basis, place, out);
@@ -284,7 +284,7 @@ impl ReportPast {
 
     /// Keeps the limits that the scripts of a lane's purchase have set.
     fn keep_limits_of(&mut self, place: u8) -> Result<(), AllocError>
-        ensures state { OnOk result (state_in self.new ≡ state.with_limits_kept (state_in self.old) place) }
+        ensures state { OnOk result (past_state self.new ≡ state.with_limits_kept (past_state self.old) place) }
     {
         match self.lanes.get(usize::from(place)) {
             Some(past) => keep_limits(&mut self.changed, &past.followed, &past.talk),
@@ -294,7 +294,7 @@ impl ReportPast {
 
     /// Keeps what the last command leaves that the card was pulled out in.
     fn keep_torn(&mut self, place: u8)
-        ensures state { state_in self.new ≡ state.state_changed state.lane_torn (state_in self.old) place }
+        ensures state { past_state self.new ≡ state.state_changed state.lane_torn (past_state self.old) place }
     {
         match self.lanes.get_mut(usize::from(place)) {
             Some(past) => past.note_torn(),
@@ -304,7 +304,7 @@ impl ReportPast {
 
     /// Keeps the number of the purchase that ended.
     fn keep_end(&mut self, place: u8, number: u64)
-        ensures state { state_in self.new ≡ state.state_changed (state.lane_ended_purchase number) (state_in self.old) place }
+        ensures state { past_state self.new ≡ state.state_changed (state.lane_ended_purchase number) (past_state self.old) place }
     {
         match self.lanes.get_mut(usize::from(place)) {
             Some(past) => past.last_end = number,
@@ -314,7 +314,7 @@ impl ReportPast {
 
     /// Keeps the number of the purchase that ended, and the limits that its scripts have set.
     fn keep_ended(&mut self, place: u8, number: u64) -> Result<(), AllocError>
-        ensures state { OnOk result (state_in self.new ≡ state.state_ended number (state_in self.old) place) }
+        ensures state { OnOk result (past_state self.new ≡ state.state_ended number (past_state self.old) place) }
     {
         self.keep_end(place, number);
         self.keep_limits_of(place)
@@ -322,7 +322,7 @@ impl ReportPast {
 
     /// Forgets what the lane's last card gave.
     fn begin(&mut self, place: u8, card: &[u8])
-        ensures state { state_in self.new ≡ state.state_changed (state.lane_begun card.now) (state_in self.old) place }
+        ensures state { past_state self.new ≡ state.state_changed (state.lane_begun card.now) (past_state self.old) place }
     {
         match self.lanes.get_mut(usize::from(place)) {
             Some(past) => past.begin(card),
@@ -333,7 +333,7 @@ impl ReportPast {
     /// Keeps what a line that tells enough by itself leaves: a card that is powered up leaves nothing of the
     /// last one, and a lost purchase its number and its limits.
     fn keep(&mut self, place: u8, what: &What<'_>) -> Result<(), AllocError>
-        ensures state { OnOk result (state_in self.new ≡ state.kept_alone (seen_what what.now) (state_in self.old) place) }
+        ensures state { OnOk result (past_state self.new ≡ state.kept_alone (seen_what what.now) (past_state self.old) place) }
     {
         match what {
             What::PowerTorn(card) | What::PowerCanned(card) => self.begin(place, card),
@@ -353,7 +353,7 @@ impl ReportPast {
         out: &mut WordLines,
     ) -> Result<(), AllocError>
         ensures words { OnOk result (Tells out.old out.new (power_words self.old.cards.items card.now apps.now)) }
-        ensures state { OnOk result (state_in self.new ≡ state.state_powered card.now apps.now (state_in self.old) place) }
+        ensures state { OnOk result (past_state self.new ≡ state.state_powered card.now apps.now (past_state self.old) place) }
     {
         self.begin(place, card);
         tell_power(out, &mut self.cards, card, apps)
@@ -367,8 +367,8 @@ impl ReportPast {
         what: &What<'_>,
         out: &mut WordLines,
     ) -> Result<(), AllocError>
-        ensures words { OnOk result (Tells out.old out.new (spec.at_lane (state.manner_from basis.now) (state_in self.old) place (seen_what what.now))) }
-        ensures state { OnOk result (state_in self.new ≡ state.lane_left_by (state.manner_from basis.now) (seen_what what.now) (state_in self.old) place) }
+        ensures words { OnOk result (Tells out.old out.new (spec.at_lane (state.manner_from basis.now) (past_state self.old) place (seen_what what.now))) }
+        ensures state { OnOk result (past_state self.new ≡ state.lane_left_by (state.manner_from basis.now) (seen_what what.now) (past_state self.old) place) }
     {
         match what {
             What::Power { card, apps } => self.power(place, card, apps, out),
@@ -400,7 +400,7 @@ impl ReportPast {
     /// Tells a message of the settlement.
     fn settle(&mut self, place: u8, bytes: &[u8], brief: bool, out: &mut WordLines)
         ensures words { Tells out.old out.new (spec.at_past (spec.to_host_words brief bytes.now) (slice_get self.old.lanes.items place)) }
-        ensures state { state_in self.new ≡ state.state_changed (state.settling bytes.now) (state_in self.old) place }
+        ensures state { past_state self.new ≡ state.state_changed (state.settling bytes.now) (past_state self.old) place }
     {
         match self.lanes.get_mut(usize::from(place)) {
             Some(past) => past.tell_settling(bytes, brief, out),
@@ -426,7 +426,7 @@ impl ReportPast {
         out: &mut WordLines,
     ) -> Result<(), AllocError>
         ensures words { OnOk result (Tells out.old out.new (spec.settling_words basis.now.filter.brief (slice_get self.old.lanes.items place) (bytes_told text.now))) }
-        ensures state { OnOk result (state_in self.new ≡ state.left_by_settling (bytes_told text.now) (state_in self.old) place) }
+        ensures state { OnOk result (past_state self.new ≡ state.left_by_settling (bytes_told text.now) (past_state self.old) place) }
     {
         match bytes_of(basis.alloc, text)? {
             Some(bytes) => {
@@ -463,8 +463,8 @@ impl ReportPast {
         what: &What<'_>,
         out: &mut WordLines,
     ) -> Result<(), AllocError>
-        ensures words { OnOk result (Tells out.old out.new (spec.of_settlement basis.now.filter.brief (state_in self.old) place (seen_what what.now))) }
-        ensures state { OnOk result (state_in self.new ≡ state.left_by_settlement (seen_what what.now) (state_in self.old) place) }
+        ensures words { OnOk result (Tells out.old out.new (spec.of_settlement basis.now.filter.brief (past_state self.old) place (seen_what what.now))) }
+        ensures state { OnOk result (past_state self.new ≡ state.left_by_settlement (seen_what what.now) (past_state self.old) place) }
     {
         match what {
             What::Sent(text) => self.settle_text(basis, place, text, out),
@@ -475,7 +475,7 @@ impl ReportPast {
 
     /// Tells what is left of the cards' limits, where that is asked for.
     fn tell_left(&self, basis: &Basis, out: &mut WordLines)
-        ensures { Tells out.old out.new (spec.limits_at_end (state.manner_from basis.now) (state_in self.now)) }
+        ensures { Tells out.old out.new (spec.limits_at_end (state.manner_from basis.now) (past_state self.now)) }
     {
         if basis.filter.why {
             tell_cards_left(out, &self.cards_known(basis));
@@ -489,7 +489,7 @@ impl ReportPast {
         what: &What<'_>,
         out: &mut WordLines,
     ) -> Result<(), AllocError>
-        ensures { OnOk result (Tells out.old out.new (spec.of_report (state.manner_from basis.now) (state_in self.now) (seen_what what.now))) }
+        ensures { OnOk result (Tells out.old out.new (spec.of_report (state.manner_from basis.now) (past_state self.now) (seen_what what.now))) }
     {
         match what {
             What::Done => {
@@ -507,8 +507,8 @@ impl ReportPast {
         line: &ReportLine<'_>,
         out: &mut WordLines,
     ) -> Result<(), AllocError>
-        ensures words { OnOk result (Tells out.old out.new (spec.line_said (state.manner_from basis.now) (state_in self.old) (seen_line line.now))) }
-        ensures state { OnOk result (state_in self.new ≡ state.state_left_by (state.manner_from basis.now) (seen_line line.now) (state_in self.old)) }
+        ensures words { OnOk result (Tells out.old out.new (spec.line_said (state.manner_from basis.now) (past_state self.old) (seen_line line.now))) }
+        ensures state { OnOk result (past_state self.new ≡ state.state_left_by (state.manner_from basis.now) (seen_line line.now) (past_state self.old)) }
     {
         match line.whose {
             Whose::Lane(lane) => self.tell_at(basis, lane, &line.what, out),
