@@ -5,6 +5,7 @@ use Rattle.apdu_core.specs.Command.{record_command}
 use Rattle.app_select.specs.Candidates.{CandidateData, firsts, candidates}
 use Rattle.app_select.specs.Said.{select_command, is_supported}
 use Rattle.app_select.specs.Selecting.{SelectedData, first_selected, selecting}
+use Rattle.emv_dict.specs.Name.{directory_name}
 use Rattle.emv_dict.specs.Progress.{Progress, Wants, Stopped, Done}
 use Rattle.emv_dict.specs.declared.ending.Cause.TheVariants.{Answer, CardBlocked}
 use Rattle.emv_dict.specs.declared.purchase.AidRow.{AidRow}

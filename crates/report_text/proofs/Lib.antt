@@ -6,7 +6,7 @@ mod Endings
 mod Parts
 mod Flat
 mod Marks
-mod Lines
+mod LineLaws
 mod Splitting
 mod EndingsBack
 mod OneLine

@@ -1,4 +1,4 @@
-use Rattle.report_text.proofs.Lines.{lines_differ}
+use Rattle.report_text.proofs.LineLaws.{lines_differ}
 use Rattle.report_text.proofs.laws.lines_differ.Goals as goal
 
 pub returns : goal.returns

@@ -1,4 +1,4 @@
-use Rattle.report_text.proofs.Lines.{reports_differ}
+use Rattle.report_text.proofs.LineLaws.{reports_differ}
 use Rattle.report_text.proofs.laws.reports_differ.Goals as goal
 
 pub returns : goal.returns
