@@ -2,6 +2,7 @@ pub mod Causes
 pub mod Readings
 pub mod Frames
 pub mod Sizes
+pub mod Pieces
 pub mod Changes
 pub mod Rows
 pub mod Turns

@@ -14,7 +14,9 @@ ghost use Rattle.torn_store.specs.Writing.{mending_row, repair_row, WroteFew, St
 
 use crate::convert::Convert;
 use crate::journal::{read_home, read_journal, write_home, write_journal};
-use crate::layout::{Block, GATE, HEADER, State, changed_in, framed, header_of, numbers_of};
+use crate::layout::{
+    Block, GATE, HEADER, State, changed_in, framed, header_of, length_bytes, numbers_of,
+};
 use arrayvec::ArrayVec;
 use emv_ports::{Gone, Pages};
 
@@ -54,12 +56,10 @@ fn write_state<P: Pages>(pages: &mut P, old: &[u8], new: &[u8]) -> Result<(), Go
     ensures all { OnOk result (WritesAll (P.memory pages.old) (commit_row (changed_pages old.now new.now)) (P.memory pages.new)) }
     ensures stops { OnErr result (StopsIn (P.memory pages.old) (commit_row (changed_pages old.now new.now)) (P.memory pages.new)) }
 {
-    let mut known = ArrayVec::new();
-    framed(old, &mut known);
     let mut frame = ArrayVec::new();
     framed(new, &mut frame);
     let mut blocks = ArrayVec::new();
-    changed_in(known.as_slice(), frame.as_slice(), &mut blocks);
+    changed_in(&length_bytes(old), old, frame.as_slice(), &mut blocks);
     write_row(pages, blocks.as_slice())
 }
 
@@ -179,7 +179,7 @@ fn write_first<P: Pages>(pages: &mut P, first: &[u8]) -> Result<(), Gone>
     let mut frame = ArrayVec::new();
     framed(first, &mut frame);
     let mut blocks = ArrayVec::new();
-    changed_in(&[], frame.as_slice(), &mut blocks);
+    changed_in(&[], &[], frame.as_slice(), &mut blocks);
     replay(pages, blocks.as_slice())?;
     pages.release()
 }

@@ -1,5 +1,6 @@
 //! The bytes of the home, the header and the journal.
-ghost use Rattle.std.specs.Prelude.{◌≡◌, ◌≤◌, ◌*◌, ◌∷◌, map, length, drop, Some, IsSome};
+ghost use Rattle.std.specs.Prelude.{◌≡◌, ◌≤◌, ◌*◌, ◌==◌, ◌∷◌, ◌++◌, map, length, drop, Some, IsSome};
+ghost use Rattle.std.specs.List.{starts_with};
 ghost use Rattle.torn_store.specs.Layout.{framed, page_part, padded_page, changed_in, numbers_in, state_in};
 ghost use Rattle.torn_store.specs.Writing.{header};
 
@@ -50,12 +51,39 @@ pub fn framed(state: &[u8], frame: &mut ArrayVec<u8, 1026>)
     }
 }
 
-/// The bytes from a home page on.
-fn from_page(bytes: &[u8], place: usize) -> &[u8]
-    requires { place ≤ 17 }
-    ensures { result.now ≡ drop (64 * place) bytes.now }
+/// The length of a state, as it stands before it in a frame.
+pub fn length_bytes(state: &[u8]) -> [u8; 2]
+    requires { length state.now ≤ 1024 }
+    ensures { result ++ state.now ≡ framed state.now }
 {
-    &bytes[(64 * place).min(bytes.len())..]
+    [(state.len() / 256) as u8, (state.len() % 256) as u8]
+}
+
+/// The bytes from a place on.
+fn from_byte(bytes: &[u8], at: usize) -> &[u8]
+    ensures { result.now ≡ drop at bytes.now }
+{
+    &bytes[at.min(bytes.len())..]
+}
+
+/// Whether these bytes and those behind them begin with a part.
+fn begin_with(near: &[u8], far: &[u8], part: &[u8]) -> bool
+    ensures { result ≡ starts_with ◌==◌ (near.now ++ far.now) part.now }
+{
+    let (head, tail) = part.split_at(near.len().min(part.len()));
+    near.starts_with(head) && far.starts_with(tail)
+}
+
+/// Whether a home that begins with these bytes, and those behind them, has a part at the page of this place. The
+/// bytes lie in two pieces, so that a state needs no copy behind its length.
+fn has_part(front: &[u8], behind: &[u8], place: usize, part: &[u8]) -> bool
+    requires { place ≤ 17 }
+    ensures { result ≡ starts_with ◌==◌ (drop (64 * place) (front.now ++ behind.now)) part.now }
+{
+    let at = 64 * place;
+    let near = from_byte(front, at);
+    let far = from_byte(behind, at.saturating_sub(front.len()));
+    begin_with(near, far, part)
 }
 
 /// The part of a frame in a home page.
@@ -64,7 +92,7 @@ fn part_of(frame: &[u8], place: usize) -> &[u8]
     ensures part { result.now ≡ page_part frame.now place }
     ensures short { length result.now ≤ 64 }
 {
-    let rest = from_page(frame, place);
+    let rest = from_byte(frame, 64 * place);
     &rest[..rest.len().min(64)]
 }
 
@@ -78,15 +106,15 @@ fn filled(part: &[u8]) -> [u8; 64]
     page
 }
 
-/// Makes `blocks` the home pages that a frame changes, where the home begins with the known bytes.
-pub fn changed_in(known: &[u8], frame: &[u8], blocks: &mut ArrayVec<Block, 17>)
+/// Makes `blocks` the home pages that a frame changes, where the home begins with these bytes, and those behind them.
+pub fn changed_in(front: &[u8], behind: &[u8], frame: &[u8], blocks: &mut ArrayVec<Block, 17>)
     requires { length frame.now ≤ 1026 }
-    ensures { blocks.new.items ≡ changed_in known.now frame.now }
+    ensures { blocks.new.items ≡ changed_in (front.now ++ behind.now) frame.now }
 {
     blocks.clear();
     for place in 0..frame.len().div_ceil(64) {
         let part = part_of(frame, place);
-        if from_page(known, place).starts_with(part) {
+        if has_part(front, behind, place, part) {
             continue;
         }
         blocks.push(Block {
