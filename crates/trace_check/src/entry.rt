@@ -69,8 +69,8 @@ pub enum Entry {
 }
 
 /// What stands behind a mark.
-fn behind<'a>(mark: &[u8], text: &'a [u8]) -> Option<&'a [u8]>
-    ensures { option_map (λ rest. rest.now) result ≡ spec.behind mark.now text.now }
+fn marked_rest<'a>(mark: &[u8], text: &'a [u8]) -> Option<&'a [u8]>
+    ensures { option_map (λ rest. rest.now) result ≡ spec.marked_rest mark.now text.now }
 {
     text.strip_prefix(mark)
 }
@@ -153,16 +153,16 @@ fn shown_in(alloc: Global, form: Form, shown: &[u8]) -> Result<Option<Entry>, Al
 fn with_bytes(alloc: Global, text: &[u8]) -> Result<Option<Entry>, AllocError>
     ensures { IfOk result (λ found. found ≡ spec.with_bytes text.now) }
 {
-    if let Some(shown) = behind(b"> ", text) {
+    if let Some(shown) = marked_rest(b"> ", text) {
         return shown_in(alloc, Form::ToCard, shown);
     }
-    if let Some(shown) = behind(b"< ", text) {
+    if let Some(shown) = marked_rest(b"< ", text) {
         return shown_in(alloc, Form::CardSaid, shown);
     }
-    if let Some(shown) = behind(b"host > ", text) {
+    if let Some(shown) = marked_rest(b"host > ", text) {
         return shown_in(alloc, Form::ToHost, shown);
     }
-    if let Some(shown) = behind(b"host < ", text) {
+    if let Some(shown) = marked_rest(b"host < ", text) {
         return shown_in(alloc, Form::HostSaid, shown);
     }
     Ok(None)
@@ -188,7 +188,7 @@ pub fn entry_of(alloc: Global, text: &[u8]) -> Result<Option<Entry>, AllocError>
     if text == b"host < none".as_slice() {
         return Ok(Some(Entry::HostSilent));
     }
-    if let Some(rest) = behind(b"end ", text) {
+    if let Some(rest) = marked_rest(b"end ", text) {
         return Ok(Some(end_with(alloc, rest)?));
     }
     with_bytes(alloc, text)
