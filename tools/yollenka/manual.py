@@ -12,7 +12,7 @@ SECTIONS = [
         ("`emvrun` [`-q`] `check` < TRACE.toml", ""),
         ("`emvrun` [`-q`] `generate` N", ""),
         ("`emvrun` `--build` | `--help` | `--version`", ""),
-        ("`explain` [`-q`] [`--brief`] [`--ends`] [`--lane` N] [`--purchase` N] [SCENARIO.toml]", ""),
+        ("`explain` [`-q`] [`--brief`] [`--ends`] [`--why`] [`--books`] [`--lane` N] [`--purchase` N] [SCENARIO.toml]", ""),
         ("`explain` `--build` | `--help`", ""),
     ]),
     ("DESCRIPTION", [
