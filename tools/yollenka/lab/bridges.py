@@ -53,7 +53,7 @@ def card_of(path, scenario, name, record):
     _, lines = begin("card_at_reader", [name] if name else [], card_document(scenario))
     first = lines.ask("off")
     if first != "off":
-        why = first if first.startswith("refused") else f"it has no card with applications of the name {name!r}"
+        why = first if first.startswith("refused") else f"it has no card of the name {name!r}"
         raise Fault(f"{path}: {why}")
     return Card(lines, record)
 
