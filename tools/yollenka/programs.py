@@ -127,7 +127,8 @@ class Builder:
 
 
 def main(words):
-    """Proves and builds these crates' programs where they aren't yet; without a word those of the package."""
+    """Proves and builds these crates' programs where they aren't yet, as many crates at a time as the machine has room for; without
+    a word those of the package."""
     parser = argparse.ArgumentParser(prog="programs.py", description=main.__doc__)
     parser.add_argument("crate", nargs="*")
     wanted = parser.parse_args(words).crate or PROGRAMS
@@ -135,8 +136,10 @@ def main(words):
         if not builds.is_known(crate):
             parser.error(f"there is no program {crate}")
     for crate in wanted:
-        built(crate)
+        if fresh(crate) is None and Builder(crate, say).prove_and_build():
+            return 1
+    return 0
 
 
 if __name__ == "__main__":
-    main(sys.argv[1:])
+    sys.exit(main(sys.argv[1:]))
